@@ -1,0 +1,3 @@
+pub mod Renaming
+pub mod Bytes
+pub mod Demand

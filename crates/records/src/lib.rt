@@ -1,0 +1,50 @@
+// Records of the shaping buffer. Here stand the types that the account in specs/ and the code share.
+
+// The phase of a buffer. In phase Output some of the input has become output.
+pub enum Phase {
+    Plain,
+    Output,
+    Positions,
+    Spoiled,
+}
+
+// A place in *done*, the output written so far.
+pub struct DonePlace(pub usize);
+
+// A place in the input. It never stands for a place in *done*.
+pub struct InputPlace(pub usize);
+
+// A position: five words, the first four of them signed.
+pub struct Position {
+    pub x_advance: u32,
+    pub y_advance: u32,
+    pub x_offset: u32,
+    pub y_offset: u32,
+    pub var: u32,
+}
+
+// The counters that no list shows. max_ops is signed, and held as its word.
+pub struct Limits {
+    pub allocated: usize,
+    pub max_len: usize,
+    pub max_ops: u32,
+    pub successful: bool,
+    pub serial: u8,
+}
+
+// Why a call is turned back. specs/Answers.antt has the number of each.
+pub enum Refusal {
+    Contradiction,
+    WrongPhase,
+    OutOfRange,
+    BadOperand,
+    OverCapacity,
+    Unreadable,
+}
+
+// What a call answers. A truth is the value 1 or 0.
+pub enum Answer {
+    Done,
+    Value(u32),
+    No(Refusal),
+}
