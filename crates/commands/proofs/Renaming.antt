@@ -1,76 +1,77 @@
 -- Renaming a call, and a list of calls.
-use mathlib.Core.Path.{_≡_, refl, ap}
-use mathlib.Core.Bool.{not}
-use mathlib.Core.List.{List, [], _∷_, map}
+use mathlib.Core.{Path._≡_, Path.refl, Path.ap, Path._∙_, Bool.true, Bool.false, Bool.cond, List.List, List.[], List._∷_, List.map}
 use Prim.Native.Nat.{ℕ}
-use Rattle.records.specs.declared.Refusal.the-variants.{Contradiction}
-use Rattle.records.specs.Lent.{rightlyLent}
-use Rattle.lists.specs.Account.{Account}
-use Rattle.lists.specs.Results.{Result, refused, accepted, answered, Outcome, outcome}
-use Rattle.lists.specs.Renaming.{renamed, renamedResult}
-use Rattle.lists.proofs.Renaming.{refuse-rename, fresh-rename, enter-rename, leave-rename, allocateLigId-rename, clearOutput-rename, clearPositions-rename, nextGlyphs-rename, skipGlyph-rename, sync-rename, moveTo-rename}
-use Rattle.edits.proofs.Renaming.{push-rename, setLength-rename, place-rename, copyGlyph-rename, outputGlyph-rename, outputInfo-rename, replaceGlyph-rename, replaceGlyphs-rename, deleteGlyph-rename, mergeClusters-rename, mergeOutClusters-rename, mergeGraphemeClusters-rename, mergeOutGraphemeClusters-rename, unsafeToBreak-rename, unsafeToConcat-rename, safeToInsertTatweel-rename, unsafeToBreakFromOutbuffer-rename, unsafeToConcatFromOutbuffer-rename, setMasks-rename, reverseRun-rename, reverseRange-rename, reverseClusters-rename, reverseGraphemes-rename, resetClusters-rename, sort-rename, deleteGlyphsInplace-rename, formClusters-rename, propagateFlags-rename}
-use Rattle.commands.specs.Calls.{Call, c00-fresh, c01-push, c02-set-length, c03-clear-output, c04-sync, c05-clear-positions, c06-place, c07-next-glyph, c08-next-glyphs, c09-skip-glyph, c0A-copy-glyph, c0B-output-glyph, c0C-output-info, c0D-replace-glyph, c0E-replace-glyphs, c0F-delete-glyph, c10-move-to, c11-merge-clusters, c12-merge-out-clusters, c13-merge-grapheme-clusters, c14-merge-out-grapheme-clusters, c15-unsafe-to-break, c16-unsafe-to-concat, c17-safe-to-insert-tatweel, c18-unsafe-to-break-from-outbuffer, c19-unsafe-to-concat-from-outbuffer, c1A-set-masks, c1B-reverse, c1C-reverse-range, c1D-reverse-clusters, c1E-reverse-graphemes, c1F-reset-clusters, c20-sort, c21-delete-glyphs-inplace, c22-form-clusters, c23-propagate-flags, c24-enter, c25-leave, c26-allocate-lig-id}
-use Rattle.commands.specs.Step.{perform, step, run}
-use Rattle.commands.specs.Renaming.{renamedOutcome, renamedCall}
+use lib.{ListN.getD, ListN.List·getD-map}
+use Rattle.records.specs.Glyphs.{zeroPosition}
+use Rattle.lists.specs.{Account.Account, Account.renamed, Results.Result, Results.refused, Results.accepted, Results.answered, Results.Outcome, Results.outcome, Results.renamedResult}
+use Rattle.lists.proofs.Renaming.{state-rename, refuse-rename, fresh-rename, enter-rename, leave-rename, allocateLigId-rename, clearOutput-rename, clearPositions-rename, nextGlyphs-rename, skipGlyph-rename, sync-rename, moveTo-rename}
+use Rattle.edits.specs.{Merging.clustersMerge, Merging.graphemesMerge, Flags.wantsConcat, Flags.wantsTatweel, Flags.plainForm, Flags.outbufferForm}
+use Rattle.edits.proofs.Renaming.{copyGlyph-rename, deleteGlyph-rename, deleteGlyphsInplace-rename, formClusters-rename, mergeDone-rename, mergeInput-rename, outbufferForm-rename, outputGlyph-rename, outputInfo-rename, place-rename, plainForm-rename, propagateFlags-rename, push-rename, replaceGlyphs-rename, resetClusters-rename, reverseClusters-rename, reverseGraphemes-rename, reverseRange-rename, reverseRun-rename, setLength-rename, setMasks-rename, sort-rename}
+use Rattle.commands.specs.Calls.{Call, Worded, perform, step, run, c00-fresh, c01-push, c02-set-length, c03-clear-output, c04-sync, c05-clear-positions, c06-place, c07-next-glyph, c08-next-glyphs, c09-skip-glyph, c0A-copy-glyph, c0B-output-glyph, c0C-output-info, c0D-replace-glyph, c0E-replace-glyphs, c0F-delete-glyph, c10-move-to, c11-merge-clusters, c12-merge-out-clusters, c13-merge-grapheme-clusters, c14-merge-out-grapheme-clusters, c15-unsafe-to-break, c16-unsafe-to-concat, c17-safe-to-insert-tatweel, c18-unsafe-to-break-from-outbuffer, c19-unsafe-to-concat-from-outbuffer, c1A-set-masks, c1B-reverse, c1C-reverse-range, c1D-reverse-clusters, c1E-reverse-graphemes, c1F-reset-clusters, c20-sort, c21-delete-glyphs-inplace, c22-form-clusters, c23-propagate-flags, c24-enter, c25-leave, c26-allocate-lig-id}
+use Rattle.commands.specs.Renaming.{renamedOutcome, reworded}
 
-module _ {G H : Type 0} (f : G → H) where
+module _ {G H : Type 0} (f : G → H) (z : G) where
+  getD-rename : (gs : List G) → getD (map f gs) 0 (f z) ≡ f (getD gs 0 z)
+  getD-rename gs = List·getD-map f gs 0 z
+
+  wants-rename : (a : Account G) → (renamed f a) .state .wants ≡ a .state .wants
+  wants-rename a = ap (λ s. s .wants) (state-rename f a)
+
   -- every call
-  perform-rename : (z : G) (capacity : ℕ) (c : Call G) (a : Account G) → perform (f z) capacity (renamedCall f c) (renamed f a) ≡ renamedResult f (perform z capacity c a)
-  unfolding perform renamedCall
-  perform-rename z capacity (c00-fresh level wants) a = fresh-rename f a level wants
-  perform-rename z capacity (c01-push g cluster) a = push-rename f a capacity g cluster
-  perform-rename z capacity (c02-set-length n) a = setLength-rename f a z capacity n
-  perform-rename z capacity c03-clear-output a = clearOutput-rename f a
-  perform-rename z capacity c04-sync a = sync-rename f a capacity
-  perform-rename z capacity c05-clear-positions a = clearPositions-rename f a
-  perform-rename z capacity (c06-place i xa ya xo yo) a = place-rename f a i xa ya xo yo
-  perform-rename z capacity c07-next-glyph a = nextGlyphs-rename f a capacity 1
-  perform-rename z capacity (c08-next-glyphs n) a = nextGlyphs-rename f a capacity n
-  perform-rename z capacity c09-skip-glyph a = skipGlyph-rename f a
-  perform-rename z capacity c0A-copy-glyph a = copyGlyph-rename f a capacity
-  perform-rename z capacity (c0B-output-glyph g) a = outputGlyph-rename f a capacity g
-  perform-rename z capacity (c0C-output-info g mask cluster var0 var1) a = outputInfo-rename f a capacity g mask cluster var0 var1
-  perform-rename z capacity (c0D-replace-glyph g) a = replaceGlyph-rename f a capacity g
-  perform-rename z capacity (c0E-replace-glyphs num-in num-out gs) a = replaceGlyphs-rename f a capacity num-in num-out gs
-  perform-rename z capacity c0F-delete-glyph a = deleteGlyph-rename f a
-  perform-rename z capacity (c10-move-to i) a = moveTo-rename f a capacity i
-  perform-rename z capacity (c11-merge-clusters s e) a = mergeClusters-rename f a s e
-  perform-rename z capacity (c12-merge-out-clusters s e) a = mergeOutClusters-rename f a s e
-  perform-rename z capacity (c13-merge-grapheme-clusters s e) a = mergeGraphemeClusters-rename f a s e
-  perform-rename z capacity (c14-merge-out-grapheme-clusters s e) a = mergeOutGraphemeClusters-rename f a s e
-  perform-rename z capacity (c15-unsafe-to-break s e) a = unsafeToBreak-rename f a s e
-  perform-rename z capacity (c16-unsafe-to-concat s e) a = unsafeToConcat-rename f a s e
-  perform-rename z capacity (c17-safe-to-insert-tatweel s e) a = safeToInsertTatweel-rename f a s e
-  perform-rename z capacity (c18-unsafe-to-break-from-outbuffer s e) a = unsafeToBreakFromOutbuffer-rename f a s e
-  perform-rename z capacity (c19-unsafe-to-concat-from-outbuffer s e) a = unsafeToConcatFromOutbuffer-rename f a s e
-  perform-rename z capacity (c1A-set-masks value mask s e) a = setMasks-rename f a value mask s e
-  perform-rename z capacity c1B-reverse a = reverseRun-rename f a
-  perform-rename z capacity (c1C-reverse-range s e) a = reverseRange-rename f a s e
-  perform-rename z capacity c1D-reverse-clusters a = reverseClusters-rename f a
-  perform-rename z capacity (c1E-reverse-graphemes slot mask) a = reverseGraphemes-rename f a slot mask
-  perform-rename z capacity c1F-reset-clusters a = resetClusters-rename f a
-  perform-rename z capacity (c20-sort s e slot mask) a = sort-rename f a s e slot mask
-  perform-rename z capacity (c21-delete-glyphs-inplace slot mask v) a = deleteGlyphsInplace-rename f a slot mask v
-  perform-rename z capacity (c22-form-clusters slot mask) a = formClusters-rename f a slot mask
-  perform-rename z capacity c23-propagate-flags a = propagateFlags-rename f a
-  perform-rename z capacity c24-enter a = enter-rename f a
-  perform-rename z capacity c25-leave a = leave-rename f a
-  perform-rename z capacity c26-allocate-lig-id a = allocateLigId-rename f a
+  perform-rename : (capacity : ℕ) (c : Call) (gs : List G) (a : Account G) → perform (f z) capacity c (map f gs) (renamed f a) ≡ renamedResult f (perform z capacity c gs a)
+  unfolding perform
+  perform-rename capacity (c00-fresh level wants) gs a = fresh-rename f a level wants
+  perform-rename capacity (c01-push cluster) gs a = rw (getD-rename gs) (push-rename f a capacity (getD gs 0 z) cluster)
+  perform-rename capacity (c02-set-length n) gs a = setLength-rename f a z capacity n
+  perform-rename capacity c03-clear-output gs a = clearOutput-rename f a
+  perform-rename capacity c04-sync gs a = sync-rename f a capacity
+  perform-rename capacity c05-clear-positions gs a = clearPositions-rename f a
+  perform-rename capacity (c06-place i xa ya xo yo) gs a = place-rename f a i xa ya xo yo
+  perform-rename capacity c07-next-glyph gs a = nextGlyphs-rename f a capacity 1
+  perform-rename capacity (c08-next-glyphs n) gs a = nextGlyphs-rename f a capacity n
+  perform-rename capacity c09-skip-glyph gs a = skipGlyph-rename f a
+  perform-rename capacity c0A-copy-glyph gs a = copyGlyph-rename f a capacity
+  perform-rename capacity c0B-output-glyph gs a = rw (getD-rename gs) (outputGlyph-rename f a capacity (getD gs 0 z))
+  perform-rename capacity (c0C-output-info mask cluster var0 var1) gs a = rw (getD-rename gs) (outputInfo-rename f a capacity (getD gs 0 z) (record { mask = mask; cluster = cluster; var0 = var0; var1 = var1; position = zeroPosition }))
+  perform-rename capacity c0D-replace-glyph gs a = rw (getD-rename gs) (replaceGlyphs-rename f a capacity 1 1 (getD gs 0 z ∷ []))
+  perform-rename capacity (c0E-replace-glyphs num-in num-out) gs a = replaceGlyphs-rename f a capacity num-in num-out gs
+  perform-rename capacity c0F-delete-glyph gs a = deleteGlyph-rename f a
+  perform-rename capacity (c10-move-to i) gs a = moveTo-rename f a capacity i
+  perform-rename capacity (c11-merge-clusters s e) gs a = mergeInput-rename f clustersMerge s e a
+  perform-rename capacity (c12-merge-out-clusters s e) gs a = mergeDone-rename f clustersMerge s e a
+  perform-rename capacity (c13-merge-grapheme-clusters s e) gs a = mergeInput-rename f graphemesMerge s e a
+  perform-rename capacity (c14-merge-out-grapheme-clusters s e) gs a = mergeDone-rename f graphemesMerge s e a
+  perform-rename capacity (c15-unsafe-to-break s e) gs a = plainForm-rename f true true 3 s e a
+  perform-rename capacity (c16-unsafe-to-concat s e) gs a = ap (λ (v : ℕ). plainForm false (wantsConcat v) 2 s e (renamed f a)) (wants-rename a) ∙ plainForm-rename f false (wantsConcat (a .state .wants)) 2 s e a
+  perform-rename capacity (c17-safe-to-insert-tatweel s e) gs a = ap (λ (v : ℕ). plainForm true true (cond (wantsTatweel v) 4 3) s e (renamed f a)) (wants-rename a) ∙ plainForm-rename f true true (cond (wantsTatweel (a .state .wants)) 4 3) s e a
+  perform-rename capacity (c18-unsafe-to-break-from-outbuffer s e) gs a = outbufferForm-rename f true true 3 s e a
+  perform-rename capacity (c19-unsafe-to-concat-from-outbuffer s e) gs a = ap (λ (v : ℕ). outbufferForm false (wantsConcat v) 2 s e (renamed f a)) (wants-rename a) ∙ outbufferForm-rename f false (wantsConcat (a .state .wants)) 2 s e a
+  perform-rename capacity (c1A-set-masks value mask s e) gs a = setMasks-rename f a value mask s e
+  perform-rename capacity c1B-reverse gs a = reverseRun-rename f a
+  perform-rename capacity (c1C-reverse-range s e) gs a = reverseRange-rename f a s e
+  perform-rename capacity c1D-reverse-clusters gs a = reverseClusters-rename f a
+  perform-rename capacity (c1E-reverse-graphemes slot mask) gs a = reverseGraphemes-rename f a slot mask
+  perform-rename capacity c1F-reset-clusters gs a = resetClusters-rename f a
+  perform-rename capacity (c20-sort s e slot mask) gs a = sort-rename f a s e slot mask
+  perform-rename capacity (c21-delete-glyphs-inplace slot mask v) gs a = deleteGlyphsInplace-rename f a slot mask v
+  perform-rename capacity (c22-form-clusters slot mask) gs a = formClusters-rename f a slot mask
+  perform-rename capacity c23-propagate-flags gs a = propagateFlags-rename f a
+  perform-rename capacity c24-enter gs a = enter-rename f a
+  perform-rename capacity c25-leave gs a = leave-rename f a
+  perform-rename capacity c26-allocate-lig-id gs a = allocateLigId-rename f a
 
-  pub outcome-rename : (a : Account G) (x : Result G) → outcome (renamed f a) (renamedResult f x) ≡ renamedOutcome f (outcome a x)
+  outcome-rename : (a : Account G) (x : Result G) → outcome (renamed f a) (renamedResult f x) ≡ renamedOutcome f (outcome a x)
   unfolding outcome renamedResult renamedOutcome
   outcome-rename a (refused r) = refl
   outcome-rename a (accepted b) = refl
   outcome-rename a (answered v b) = refl
 
-  pub step-rename : (z : G) (first second : ℕ) (c : Call G) (a : Account G) → step (f z) first second (renamedCall f c) (renamed f a) ≡ renamedOutcome f (step z first second c a)
-  unfolding step
-  step-rename z first second c a = rw (perform-rename, refuse-rename) (outcome-rename a _)
+  pub step-rename : (first second : ℕ) (w : Worded G) (a : Account G) → step (f z) first second (reworded f w) (renamed f a) ≡ renamedOutcome f (step z first second w a)
+  unfolding step reworded
+  step-rename first second w a = rw (perform-rename, refuse-rename) (outcome-rename a _)
 
   -- every list of calls
-  pub run-rename : (z : G) (first second : ℕ) (cs : List (Call G)) (a : Account G) → run (f z) first second (map (renamedCall f) cs) (renamed f a) ≡ map (renamedOutcome f) (run z first second cs a)
+  pub run-rename : (first second : ℕ) (ws : List (Worded G)) (a : Account G) → run (f z) first second (map (reworded f) ws) (renamed f a) ≡ map (renamedOutcome f) (run z first second ws a)
   unfolding run renamedOutcome
-  run-rename z first second [] a = refl
-  run-rename z first second (c ∷ cs) a =
-      rw step-rename (ap {B = List (Outcome H)} (λ r. renamedOutcome f (step z first second c a) ∷ r) (run-rename z first second cs _))
+  run-rename first second [] a = refl
+  run-rename first second (w ∷ ws) a = rw step-rename (ap {B = List (Outcome H)} (λ r. renamedOutcome f (step z first second w a) ∷ r) (run-rename first second ws _))

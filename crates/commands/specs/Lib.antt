@@ -1,6 +1,4 @@
 pub mod Calls
-pub mod Step
 pub mod Bytes
 pub mod Renaming
 pub mod Demand
-pub mod Executable

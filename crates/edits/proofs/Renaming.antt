@@ -1,26 +1,17 @@
 -- Renaming an account: the calls of this crate commute with it.
-use mathlib.Core.Path.{_≡_, refl}
-use mathlib.Core.Bool.{Bool}
-use mathlib.Core.Option.{Option}
-use mathlib.Core.List.{List, [], _∷_, map}
-use Prim.Native.Nat.{ℕ, zero, suc, _+_}
-use lib.ListN.{drop}
-use Rattle.records.specs.declared.DonePlace.{DonePlace}
-use Rattle.records.specs.declared.InputPlace.{InputPlace}
-use Rattle.records.specs.Glyphs.{Glyph, rename, change}
+use mathlib.Core.{Path._≡_, Path.refl, Bool.Bool, Option.Option, List.List, List.[], List._∷_, List.map}
+use Prim.Native.Nat.{ℕ, zero, suc}
+use lib.{ListN.drop}
+use Rattle.records.specs.{DonePlace, InputPlace, Glyphs.Glyph, Glyphs.Info, Glyphs.rename, Glyphs.change}
 use Rattle.records.proofs.Renaming.{replicate-map, copy-rename}
-use Rattle.lists.specs.Account.{Account}
-use Rattle.lists.specs.Results.{Result}
-use Rattle.lists.specs.Renaming.{renamed, renamedResult}
+use Rattle.lists.specs.{Account.Account, Account.renamed, Results.renamedResult}
 use Rattle.lists.proofs.Renaming as lists
-use Rattle.edits.specs.Places.{outsideInput, outsideDone, shown, withInput, withDone, withRest}
-use Rattle.edits.specs.Writing.{written, model, writing, copyGlyph, outputGlyph, outputInfo, replaceGlyphs, replaceGlyph}
-use Rattle.edits.specs.Merging.{merged, merge, mergedOut, mergeOut, mergeInput, mergeDone, mergeClusters, mergeOutClusters, mergeGraphemeClusters, mergeOutGraphemeClusters}
-use Rattle.edits.specs.Deleting.{inherited, mergedForward, deleted, deleteGlyph, kept, deletedEach, keptRun, deleteGlyphsInplace}
-use Rattle.edits.specs.Flags.{interior, flagInterior, flagOutInterior, flagAll, flagOutAll, plainForm, outbufferForm, from, upTo, unsafeToBreak, unsafeToConcat, safeToInsertTatweel, unsafeToBreakFromOutbuffer, unsafeToConcatFromOutbuffer}
-use Rattle.edits.specs.WholeRun.{notWhole, notPlainWhole, push, setLength, place, setMasks, reverseRun, reverseRange, numbered, resetClusters}
+use Rattle.edits.specs.Writing.{written, model, writing, copyGlyph, outputGlyph, outputInfo, replaceGlyphs}
+use Rattle.edits.specs.Merging.{outsideInput, merged, merge, mergedOut, mergeOut, mergeInput, mergeDone}
+use Rattle.edits.specs.Deleting.{current, inherited, mergedForward, deleted, deleteGlyph, kept, deletedEach, keptRun, deleteGlyphsInplace}
+use Rattle.edits.specs.Flags.{interior, flagInterior, flagOutInterior, flagAll, flagOutAll, plainForm, outbufferForm}
+use Rattle.edits.specs.WholeRun.{notWhole, push, setLength, place, setMasks, reverseRun, reverseRange, numbered, resetClusters, rotated, inserted, sorted, sort}
 use Rattle.edits.specs.Groups.{regrouped, mergedEach, propagated, reverseClusters, reverseGraphemes, formClusters, propagateFlags}
-use Rattle.edits.specs.Sorting.{keys, rotated, inserted, sorted, sort}
 
 module _ {G H : Type 0} (f : G → H) where
   -- ---- places and parts
@@ -29,33 +20,17 @@ module _ {G H : Type 0} (f : G → H) where
     unfolding outsideInput
     outsideInput-rename s e = simp lists.renaming
 
-    outsideDone-rename : (s e : DonePlace) → outsideDone s e (renamed f a) ≡ outsideDone s e a
-    unfolding outsideDone
-    outsideDone-rename s e = simp lists.renaming
-
-    shown-rename : (s : InputPlace) → shown s (renamed f a) ≡ shown s a
-    unfolding shown
-    shown-rename s = simp lists.renaming
-
-    from-rename : (s : Option InputPlace) → from s (renamed f a) ≡ from s a
-    unfolding from
-    from-rename s = simp lists.renaming
-
-    upTo-rename : (e : Option InputPlace) → upTo e (renamed f a) ≡ upTo e a
-    unfolding upTo
-    upTo-rename e = simp lists.renaming
-
     notWhole-rename : notWhole (renamed f a) ≡ notWhole a
     unfolding notWhole
     notWhole-rename = simp lists.renaming
 
-    notPlainWhole-rename : notPlainWhole (renamed f a) ≡ notPlainWhole a
-    unfolding notPlainWhole
-    notPlainWhole-rename = simp (lists.renaming, notWhole-rename)
-
     model-rename : model (renamed f a) ≡ model a
     unfolding model
     model-rename = simp lists.renaming
+
+    current-rename : current (renamed f a) ≡ current a
+    unfolding current
+    current-rename = simp lists.renaming
 
     kept-rename : kept (renamed f a) ≡ renamed f (kept a)
     unfolding renamed kept
@@ -66,23 +41,11 @@ module _ {G H : Type 0} (f : G → H) where
     keptRun-rename = refl
 
     module _ (l : List (Glyph G)) where
-      withInput-rename : withInput (map (rename f) l) (renamed f a) ≡ renamed f (withInput l a)
-      unfolding renamed withInput
-      withInput-rename = simp lists.renaming
-
-      withDone-rename : withDone (map (rename f) l) (renamed f a) ≡ renamed f (withDone l a)
-      unfolding renamed withDone
-      withDone-rename = refl
-
-      withRest-rename : withRest (map (rename f) l) (renamed f a) ≡ renamed f (withRest l a)
-      unfolding renamed withRest
-      withRest-rename = refl
-
       written-rename : written (map (rename f) l) (renamed f a) ≡ renamed f (written l a)
       unfolding renamed written
       written-rename = simp lists.renaming
 
-  ruleset parts = (lists.renaming, outsideInput-rename, outsideDone-rename, shown-rename, from-rename, upTo-rename, notWhole-rename, notPlainWhole-rename, model-rename, kept-rename, keptRun-rename, withInput-rename, withDone-rename, withRest-rename, written-rename)
+  ruleset parts = (lists.renaming, outsideInput-rename, notWhole-rename, model-rename, current-rename, kept-rename, keptRun-rename, written-rename)
 
   -- ---- flags
   interior-rename : (v m bits i j : ℕ) (l : List (Glyph G)) → interior v m bits i j (map (rename f) l) ≡ map (rename f) (interior v m bits i j l)
@@ -106,13 +69,13 @@ module _ {G H : Type 0} (f : G → H) where
   unfolding flagOutAll
   flagOutAll-rename bits i j a = simp (parts, flagAll-rename)
 
-  plainForm-rename : (w : Bool) (s e : Option InputPlace) (b a : Account G) → plainForm w s e (renamed f b) (renamed f a) ≡ renamedResult f (plainForm w s e b a)
+  pub plainForm-rename : (i w : Bool) (bits : ℕ) (s e : Option InputPlace) (a : Account G) → plainForm i w bits s e (renamed f a) ≡ renamedResult f (plainForm i w bits s e a)
   unfolding plainForm
-  plainForm-rename w s e b a = simp parts
+  plainForm-rename i w bits s e a = simp (parts, flagInterior-rename, flagAll-rename)
 
-  outbufferForm-rename : (w : Bool) (s : Option DonePlace) (e : Option InputPlace) (b a : Account G) → outbufferForm w s e (renamed f b) (renamed f a) ≡ renamedResult f (outbufferForm w s e b a)
+  pub outbufferForm-rename : (i w : Bool) (bits : ℕ) (s : Option DonePlace) (e : Option InputPlace) (a : Account G) → outbufferForm i w bits s e (renamed f a) ≡ renamedResult f (outbufferForm i w bits s e a)
   unfolding outbufferForm
-  outbufferForm-rename w s e b a = simp parts
+  outbufferForm-rename i w bits s e a = simp (parts, flagOutInterior-rename, flagOutAll-rename)
 
   -- ---- merging
   merged-rename : (s e : ℕ) (a : Account G) → merged s e (renamed f a) ≡ renamed f (merged s e a)
@@ -131,11 +94,11 @@ module _ {G H : Type 0} (f : G → H) where
   unfolding mergeOut
   mergeOut-rename b s e a = simp (parts, mergedOut-rename)
 
-  mergeInput-rename : (b : Bool) (s e : InputPlace) (a : Account G) → mergeInput b s e (renamed f a) ≡ renamedResult f (mergeInput b s e a)
+  pub mergeInput-rename : (b : ℕ → Bool) (s e : InputPlace) (a : Account G) → mergeInput b s e (renamed f a) ≡ renamedResult f (mergeInput b s e a)
   unfolding mergeInput
   mergeInput-rename b s e a = simp (parts, merge-rename)
 
-  mergeDone-rename : (b : Bool) (s e : DonePlace) (a : Account G) → mergeDone b s e (renamed f a) ≡ renamedResult f (mergeDone b s e a)
+  pub mergeDone-rename : (b : ℕ → Bool) (s e : DonePlace) (a : Account G) → mergeDone b s e (renamed f a) ≡ renamedResult f (mergeDone b s e a)
   unfolding mergeDone
   mergeDone-rename b s e a = simp (parts, mergeOut-rename)
 
@@ -184,10 +147,6 @@ module _ {G H : Type 0} (f : G → H) where
   propagated-rename w (n ∷ ns) s l = simp parts (propagated-rename w ns _ _)
 
   -- ---- sorting
-  keys-rename : (slot mask : ℕ) (l : List (Glyph G)) → keys slot mask (map (rename f) l) ≡ keys slot mask l
-  unfolding keys
-  keys-rename slot mask l = simp parts
-
   rotated-rename : (j i : ℕ) (l : List (Glyph G)) → rotated j i (map (rename f) l) ≡ map (rename f) (rotated j i l)
   unfolding rotated
   rotated-rename j i l = simp parts
@@ -199,9 +158,9 @@ module _ {G H : Type 0} (f : G → H) where
   sorted-rename : (slot mask s n i : ℕ) (a : Account G) → sorted slot mask s n i (renamed f a) ≡ renamed f (sorted slot mask s n i a)
   unfolding sorted
   sorted-rename slot mask s zero i a = refl
-  sorted-rename slot mask s (suc n) i a = simp (parts, keys-rename, inserted-rename) (sorted-rename slot mask s n (suc i) _)
+  sorted-rename slot mask s (suc n) i a = simp (parts, inserted-rename) (sorted-rename slot mask s n (suc i) _)
 
-  ruleset acts = (parts, flagInterior-rename, flagOutInterior-rename, flagAll-rename, flagOutAll-rename, plainForm-rename, outbufferForm-rename, merge-rename, mergeInput-rename, mergeDone-rename, deleted-rename, deletedEach-rename, writing-rename, numbered-rename, regrouped-rename, mergedEach-rename, propagated-rename, sorted-rename)
+  ruleset acts = (parts, merge-rename, deleted-rename, deletedEach-rename, writing-rename, numbered-rename, regrouped-rename, mergedEach-rename, propagated-rename, sorted-rename)
 
   -- ---- calls
   module _ (a : Account G) where
@@ -225,9 +184,9 @@ module _ {G H : Type 0} (f : G → H) where
     unfolding outputGlyph
     outputGlyph-rename capacity g = simp (acts, copy-rename f)
 
-    pub outputInfo-rename : (capacity : ℕ) (g : G) (m c v w : ℕ) → outputInfo capacity (f g) m c v w (renamed f a) ≡ renamedResult f (outputInfo capacity g m c v w a)
+    pub outputInfo-rename : (capacity : ℕ) (g : G) (i : Info) → outputInfo capacity (f g) i (renamed f a) ≡ renamedResult f (outputInfo capacity g i a)
     unfolding outputInfo
-    outputInfo-rename capacity g m c v w = simp (acts, copy-rename f)
+    outputInfo-rename capacity g i = simp (acts, copy-rename f)
 
     pub replaceGlyphs-rename : (capacity i o : ℕ) (gs : List G) → replaceGlyphs capacity i o (map f gs) (renamed f a) ≡ renamedResult f (replaceGlyphs capacity i o gs a)
     unfolding replaceGlyphs
@@ -238,14 +197,6 @@ module _ {G H : Type 0} (f : G → H) where
     deleteGlyph-rename = simp acts
 
     module _ (s e : InputPlace) where
-      pub mergeClusters-rename : mergeClusters s e (renamed f a) ≡ renamedResult f (mergeClusters s e a)
-      unfolding mergeClusters
-      mergeClusters-rename = simp acts
-
-      pub mergeGraphemeClusters-rename : mergeGraphemeClusters s e (renamed f a) ≡ renamedResult f (mergeGraphemeClusters s e a)
-      unfolding mergeGraphemeClusters
-      mergeGraphemeClusters-rename = simp acts
-
       pub reverseRange-rename : reverseRange s e (renamed f a) ≡ renamedResult f (reverseRange s e a)
       unfolding reverseRange
       reverseRange-rename = simp acts
@@ -253,37 +204,6 @@ module _ {G H : Type 0} (f : G → H) where
       pub sort-rename : (slot mask : ℕ) → sort s e slot mask (renamed f a) ≡ renamedResult f (sort s e slot mask a)
       unfolding sort
       sort-rename slot mask = simp acts
-
-    module _ (s e : DonePlace) where
-      pub mergeOutClusters-rename : mergeOutClusters s e (renamed f a) ≡ renamedResult f (mergeOutClusters s e a)
-      unfolding mergeOutClusters
-      mergeOutClusters-rename = simp acts
-
-      pub mergeOutGraphemeClusters-rename : mergeOutGraphemeClusters s e (renamed f a) ≡ renamedResult f (mergeOutGraphemeClusters s e a)
-      unfolding mergeOutGraphemeClusters
-      mergeOutGraphemeClusters-rename = simp acts
-
-    module _ (s e : Option InputPlace) where
-      pub unsafeToBreak-rename : unsafeToBreak s e (renamed f a) ≡ renamedResult f (unsafeToBreak s e a)
-      unfolding unsafeToBreak
-      unsafeToBreak-rename = simp acts
-
-      pub unsafeToConcat-rename : unsafeToConcat s e (renamed f a) ≡ renamedResult f (unsafeToConcat s e a)
-      unfolding unsafeToConcat
-      unsafeToConcat-rename = simp acts
-
-      pub safeToInsertTatweel-rename : safeToInsertTatweel s e (renamed f a) ≡ renamedResult f (safeToInsertTatweel s e a)
-      unfolding safeToInsertTatweel
-      safeToInsertTatweel-rename = simp acts
-
-    module _ (s : Option DonePlace) (e : Option InputPlace) where
-      pub unsafeToBreakFromOutbuffer-rename : unsafeToBreakFromOutbuffer s e (renamed f a) ≡ renamedResult f (unsafeToBreakFromOutbuffer s e a)
-      unfolding unsafeToBreakFromOutbuffer
-      unsafeToBreakFromOutbuffer-rename = simp acts
-
-      pub unsafeToConcatFromOutbuffer-rename : unsafeToConcatFromOutbuffer s e (renamed f a) ≡ renamedResult f (unsafeToConcatFromOutbuffer s e a)
-      unfolding unsafeToConcatFromOutbuffer
-      unsafeToConcatFromOutbuffer-rename = simp acts
 
     pub setMasks-rename : (v m s e : ℕ) → setMasks v m s e (renamed f a) ≡ renamedResult f (setMasks v m s e a)
     unfolding setMasks
@@ -317,7 +237,3 @@ module _ {G H : Type 0} (f : G → H) where
       pub deleteGlyphsInplace-rename : (v : ℕ) → deleteGlyphsInplace slot mask v (renamed f a) ≡ renamedResult f (deleteGlyphsInplace slot mask v a)
       unfolding deleteGlyphsInplace
       deleteGlyphsInplace-rename v = simp acts
-
-  pub replaceGlyph-rename : (a : Account G) (capacity : ℕ) (g : G) → replaceGlyph capacity (f g) (renamed f a) ≡ renamedResult f (replaceGlyph capacity g a)
-  unfolding replaceGlyph
-  replaceGlyph-rename a capacity g = replaceGlyphs-rename a capacity 1 1 (g ∷ [])

@@ -1,20 +1,10 @@
 -- Groups of neighbours in the whole run: calls 1D, 1E, 22, 23.
-use mathlib.Core.Bool.{Bool, true, false, cond}
-use mathlib.Core.List.{List, [], _∷_, _++_}
+use mathlib.Core.{Bool.Bool, Bool.true, Bool.false, Bool.cond, List.List, List.[], List._∷_, List._++_}
 use Prim.Native.Nat.{ℕ, suc, _+_, _%_}
-use lib.Dec.{leb, ltb}
-use lib.Bits.{bitAnd, bitOr}
-use lib.ListN.{take, drop}
-use lib.Seq.{slice}
-use Rattle.records.specs.declared.Refusal.the-variants.{WrongPhase, BadOperand}
-use Rattle.records.specs.Glyphs.{Glyph, Info, withMask, key}
-use Rattle.records.specs.Ranges.{infos, edit, is, isnt}
-use Rattle.lists.specs.Account.{Account}
-use Rattle.lists.specs.Results.{Result, accepted, refuse_when_else_}
-use Rattle.edits.specs.Places.{withRest}
-use Rattle.edits.specs.Merging.{merge, clustersMerge, graphemesMerge}
-use Rattle.edits.specs.Flags.{wantsConcat, wantsTatweel}
-use Rattle.edits.specs.WholeRun.{notWhole}
+use lib.{Dec.leb, Dec.ltb, Bits.bitAnd, Bits.bitOr, ListN.take, ListN.drop, Seq.slice}
+use Rattle.records.specs.{WrongPhase, BadOperand, Glyphs.Glyph, Glyphs.Info, Glyphs.withMask, Glyphs.key, Ranges.infos, Ranges.edit, Ranges.is, Ranges.isnt}
+use Rattle.lists.specs.{Account.Account, Account.withRest, Results.Result, Results.accepted, Results.refuse_when_else_}
+use Rattle.edits.specs.{WholeRun.notWhole, Merging.merge, Merging.graphemesMerge, Flags.wantsConcat, Flags.wantsTatweel}
 
 -- the sizes of groups, from left to right. `p x y` says that y goes on with the group of x
 unfoldable pub joins : Bool → List ℕ → List ℕ
@@ -37,7 +27,7 @@ continues slot mask x y = isnt 0 (key slot mask y)
 -- "neighbours of one cluster join their low three mask bits"
 unfoldable pub joined : List Info → ℕ
 joined [] = 0
-joined (i ∷ is) = bitOr (i .mask % 8) (joined is)
+joined (i ∷ rest) = bitOr (i .mask % 8) (joined rest)
 
 -- "tatweel wanted, bit 0 clears bit 2, and a bit 2 still set sets bits 0 and 1; concat unwanted clears bit 1"
 unfoldable pub settled : ℕ → ℕ → ℕ
@@ -60,17 +50,13 @@ module _ {G : Type 0} where
   -- "the result is each one's whole mask"
   unfoldable pub propagated : ℕ → List ℕ → ℕ → List (Glyph G) → List (Glyph G)
   propagated wants [] s l = l
-  propagated wants (n ∷ ns) s l =
-      propagated wants ns (s + n) (edit s (s + n) (withMask (settled wants (joined (slice s (s + n) (infos l))))) l)
+  propagated wants (n ∷ ns) s l = propagated wants ns (s + n) (edit s (s + n) (withMask (settled wants (joined (slice s (s + n) (infos l))))) l)
 
-  -- 1D
-  unfoldable pub reverseClusters : Account G → Result G
-  reverseClusters a =
-      refuse WrongPhase when notWhole a else
-      accepted (withRest (regrouped (sizes sameCluster (infos (a .rest))) (a .rest)) a)
+  unfoldable pub reverseClusters : Account G → Result G  -- 1D
+  reverseClusters a = refuse WrongPhase when notWhole a else accepted (withRest (regrouped (sizes sameCluster (infos (a .rest))) (a .rest)) a)
 
-  -- 1E: "at level 1 `reverse_graphemes` first merges each from the left"
-  unfoldable pub reverseGraphemes : ℕ → ℕ → Account G → Result G
+  -- "at level 1 `reverse_graphemes` first merges each from the left"
+  unfoldable pub reverseGraphemes : ℕ → ℕ → Account G → Result G  -- 1E
   reverseGraphemes slot mask a =
       let ns = sizes (continues slot mask) (infos (a .rest)) in
       let b = cond (is 1 (a .state .level)) (mergedEach true ns 0 a) a in
@@ -78,15 +64,12 @@ module _ {G : Type 0} where
       refuse BadOperand when ltb 1 slot else
       accepted (withRest (regrouped ns (b .rest)) b)
 
-  -- 22: "`form_clusters` makes the grapheme merge of each"
-  unfoldable pub formClusters : ℕ → ℕ → Account G → Result G
+  -- "`form_clusters` makes the grapheme merge of each"
+  unfoldable pub formClusters : ℕ → ℕ → Account G → Result G  -- 22
   formClusters slot mask a =
       refuse WrongPhase when notWhole a else
       refuse BadOperand when ltb 1 slot else
       accepted (mergedEach (graphemesMerge (a .state .level)) (sizes (continues slot mask) (infos (a .rest))) 0 a)
 
-  -- 23
-  unfoldable pub propagateFlags : Account G → Result G
-  propagateFlags a =
-      refuse WrongPhase when notWhole a else
-      accepted (withRest (propagated (a .state .wants) (sizes sameCluster (infos (a .rest))) 0 (a .rest)) a)
+  unfoldable pub propagateFlags : Account G → Result G  -- 23
+  propagateFlags a = refuse WrongPhase when notWhole a else accepted (withRest (propagated (a .state .wants) (sizes sameCluster (infos (a .rest))) 0 (a .rest)) a)

@@ -1,9 +1,6 @@
-pub mod Places
 pub mod Writing
 pub mod Merging
 pub mod Deleting
 pub mod Flags
 pub mod WholeRun
 pub mod Groups
-pub mod Sorting
-pub mod Executable

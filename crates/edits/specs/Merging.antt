@@ -1,47 +1,33 @@
 -- Merging: calls 11 to 14.
-use mathlib.Core.Bool.{Bool, cond, not, _&&_, _||_}
-use mathlib.Core.List.{List}
+use mathlib.Core.{Bool.Bool, Bool.cond, Bool.not, Bool._&&_, Bool._||_, List.List}
 use Prim.Native.Nat.{ℕ, _+_, _-_}
-use lib.Dec.{leb, ltb}
-use lib.ListN.{take, drop, length}
-use lib.Seq.{slice}
-use Rattle.records.specs.declared.DonePlace.{DonePlace}
-use Rattle.records.specs.declared.InputPlace.{InputPlace}
-use Rattle.records.specs.declared.Refusal.the-variants.{WrongPhase, OutOfRange}
-use Rattle.records.specs.Glyphs.{Glyph, setCluster}
-use Rattle.records.specs.Ranges.{clusters, edit, is, isnt, least, first, last, heads, tails}
-use Rattle.lists.specs.Account.{Account, hasOutput, isSpoiled, input, paying}
-use Rattle.lists.specs.Results.{Result, accepted, refuse_when_else_}
-use Rattle.edits.specs.Places.{outsideInput, outsideDone, shown, withInput, withDone}
-use Rattle.edits.specs.Flags.{flagInterior, breakBits}
+use lib.{Dec.leb, Dec.ltb, ListN.take, ListN.drop, ListN.length, Seq.slice}
+use Rattle.records.specs.{DonePlace, InputPlace, WrongPhase, OutOfRange, Glyphs.setCluster, Ranges.clusters, Ranges.edit, Ranges.is, Ranges.isnt, Ranges.least, Ranges.first, Ranges.last, Ranges.heads, Ranges.tails}
+use Rattle.lists.specs.{Account.Account, Account.hasOutput, Account.isSpoiled, Account.input, Account.len, Account.outLen, Account.paying, Account.withInput, Account.withDone, Results.Result, Results.accepted, Results.refuse_when_else_}
+use Rattle.edits.specs.Flags.{flagInterior}
 
--- ---- s..e in a list of clusters cs: where its ends go
--- "If the last is not m, e grows over its equals."
+-- "If the last is not m, e grows over its equals." s..e is a range of the clusters cs, and m their least in it
 unfoldable pub mergeEnd : ℕ → ℕ → List ℕ → ℕ
-mergeEnd s e cs =
-    let r = slice s e cs in
-    cond (is (least r) (last r)) e (e + heads (is (last r)) (drop e cs))
+mergeEnd s e cs = let r = slice s e cs in cond (is (least r) (last r)) e (e + heads (is (last r)) (drop e cs))
 
 -- "If the first is not m, s falls over its equals, not below the cursor."
 unfoldable pub mergeStart : ℕ → ℕ → ℕ → List ℕ → ℕ
-mergeStart cursor s e cs =
-    let r = slice s e cs in
-    cond (is (least r) (first r)) s (s - tails (is (first r)) (slice cursor s cs))
+mergeStart cursor s e cs = let r = slice s e cs in cond (is (least r) (first r)) s (s - tails (is (first r)) (slice cursor s cs))
 
--- "If s is the cursor and its cluster is not m, the equal tail of *done* becomes m." Where that tail starts in the clusters ds of *done*
+-- "If s is the cursor and its cluster is not m, the equal tail of *done* becomes m.": where that tail starts, in the clusters ds of *done*
 unfoldable pub mergeTail : ℕ → ℕ → ℕ → List ℕ → List ℕ → ℕ
 mergeTail cursor s e cs ds =
     let r = slice s e cs in
     cond (is cursor (mergeStart cursor s e cs) && isnt (least r) (first r)) (length ds - tails (is (first r)) ds) (length ds)
 
--- the same in *done*: "both ends grow over their equals"
+-- in *done* "both ends grow over their equals"
 unfoldable pub outStart : ℕ → ℕ → List ℕ → ℕ
 outStart s e ds = s - tails (is (first (slice s e ds))) (take s ds)
 
 unfoldable pub outEnd : ℕ → ℕ → List ℕ → ℕ
 outEnd s e ds = e + heads (is (last (slice s e ds))) (drop e ds)
 
--- "if e reaches `out_len`, the head of *rest* equal to the last done cluster becomes m". Where that head ends
+-- "if e reaches `out_len`, the head of *rest* equal to the last done cluster becomes m": where that head ends
 unfoldable pub outHead : ℕ → ℕ → List ℕ → List ℕ → ℕ
 outHead s e ds cs = cond (is (length ds) (outEnd s e ds)) (heads (is (last (slice s e ds))) cs) 0
 
@@ -64,13 +50,6 @@ module _ {G : Type 0} where
       (withDone (edit (mergeTail cursor s e cs ds) (length (a .done)) becomes (a .done))
       (withInput (edit (mergeStart cursor s e cs) (mergeEnd s e cs) becomes (input a)) a))
 
-  -- "under two glyphs nothing happens. Levels 2 and 3 flag instead (`unsafe_to_break`)", with its rule of 255
-  unfoldable pub merge : Bool → ℕ → ℕ → Account G → Account G
-  merge merges s e a =
-      cond (ltb (e - s) 2) a
-      (cond merges (merged s e a)
-      (cond (ltb 255 (e - s)) a (flagInterior breakBits s e a)))
-
   unfoldable pub mergedOut : ℕ → ℕ → Account G → Account G
   mergedOut s e a =
       let cs = clusters (input a) in
@@ -80,34 +59,30 @@ module _ {G : Type 0} where
       (withDone (edit (outStart s e ds) (outEnd s e ds) becomes (a .done))
       (withInput (edit 0 (outHead s e ds cs) becomes (input a)) a))
 
+  -- "under two glyphs nothing happens. Levels 2 and 3 flag instead (`unsafe_to_break`)", with its rule of 255
+  unfoldable pub merge : Bool → ℕ → ℕ → Account G → Account G
+  merge merges s e a =
+      cond (ltb (e - s) 2) a
+      (cond merges (merged s e a)
+      (cond (ltb 255 (e - s)) a (flagInterior 3 s e a)))
+
   -- "under two glyphs, and at levels 2 and 3, nothing happens"
   unfoldable pub mergeOut : Bool → ℕ → ℕ → Account G → Account G
   mergeOut merges s e a = cond (ltb (e - s) 2) a (cond merges (mergedOut s e a) a)
 
-  unfoldable pub mergeInput : Bool → InputPlace → InputPlace → Account G → Result G
+  -- refusal 3 of a range: "a place or count outside the lists, or a start past its end in one list"; "with output s ≥ `idx`"
+  unfoldable pub outsideInput : InputPlace → InputPlace → Account G → Bool
+  outsideInput s e a = ltb (e .0) (s .0) || (ltb (len a) (e .0) || ltb (s .0) (a .state .gone))
+
+  -- `merges` says at which levels
+  unfoldable pub mergeInput : (ℕ → Bool) → InputPlace → InputPlace → Account G → Result G  -- 11, 13
   mergeInput merges s e a =
       refuse WrongPhase when isSpoiled a else
       refuse OutOfRange when outsideInput s e a else
-      accepted (merge merges (shown s a) (shown e a) a)
+      accepted (merge (merges (a .state .level)) (s .0 - a .state .gone) (e .0 - a .state .gone) a)
 
-  unfoldable pub mergeDone : Bool → DonePlace → DonePlace → Account G → Result G
+  unfoldable pub mergeDone : (ℕ → Bool) → DonePlace → DonePlace → Account G → Result G  -- 12, 14
   mergeDone merges s e a =
       refuse WrongPhase when not (hasOutput a) else
-      refuse OutOfRange when outsideDone s e a else
-      accepted (mergeOut merges (s .0) (e .0) a)
-
-  -- 11
-  unfoldable pub mergeClusters : InputPlace → InputPlace → Account G → Result G
-  mergeClusters s e a = mergeInput (clustersMerge (a .state .level)) s e a
-
-  -- 12
-  unfoldable pub mergeOutClusters : DonePlace → DonePlace → Account G → Result G
-  mergeOutClusters s e a = mergeDone (clustersMerge (a .state .level)) s e a
-
-  -- 13
-  unfoldable pub mergeGraphemeClusters : InputPlace → InputPlace → Account G → Result G
-  mergeGraphemeClusters s e a = mergeInput (graphemesMerge (a .state .level)) s e a
-
-  -- 14
-  unfoldable pub mergeOutGraphemeClusters : DonePlace → DonePlace → Account G → Result G
-  mergeOutGraphemeClusters s e a = mergeDone (graphemesMerge (a .state .level)) s e a
+      refuse OutOfRange when ltb (e .0) (s .0) || ltb (outLen a) (e .0) else
+      accepted (mergeOut (merges (a .state .level)) (s .0) (e .0) a)

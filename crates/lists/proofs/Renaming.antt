@@ -1,19 +1,12 @@
 -- Renaming an account: the calls of this crate commute with it. Each law takes the renaming outwards.
-use mathlib.Core.Path.{_≡_, refl}
-use mathlib.Core.Bool.{Bool, true, false, cond}
-use mathlib.Core.List.{List, map}
+use mathlib.Core.{Path._≡_, Path.refl, Bool.Bool, Bool.true, Bool.false, Bool.cond, List.List, List.map}
 use Prim.Native.Nat.{ℕ}
-use lib.Dec.{ltb}
-use Rattle.records.specs.declared.Refusal.{Refusal}
-use Rattle.records.specs.declared.Refusal.the-variants.{BadOperand}
-use Rattle.records.specs.declared.Limits.{Limits}
-use Rattle.records.specs.Glyphs.{Glyph, rename}
+use lib.{Dec.ltb}
+use Rattle.records.specs.{Refusal, BadOperand, Limits, Glyphs.Glyph, Glyphs.rename}
 use Rattle.records.proofs.Renaming as records
-use Rattle.lists.specs.Account.{Account, input, len, idx, outLen, positions, freshAccount, limiting, paying, failing, sized}
-use Rattle.lists.specs.Results.{Result, refused, accepted, answered, Outcome, outcome, refuse_when_else_, Room, fits, givesUp, over, whether, needing}
-use Rattle.lists.specs.Counting.{fresh, enter, leave, allocateLigId}
-use Rattle.lists.specs.Cursor.{moved, passing, dropping, back, cursorAt, growing, swapped, spoiling, withoutPositions, opened, positioned, clearOutput, clearPositions, nextGlyphs, skipGlyph, sync, paysFor, forward, goesBack, backward, moveTo}
-use Rattle.lists.specs.Renaming.{renamed, renamedResult}
+use Rattle.lists.specs.Account.{Account, hasOutput, hasPositions, isSpoiled, input, len, idx, outLen, positions, freshAccount, limiting, paying, failing, sized, withInput, withDone, withRest, renamed}
+use Rattle.lists.specs.Results.{Result, refused, accepted, answered, refuse_when_else_, needing, renamedResult}
+use Rattle.lists.specs.Cursor.{fresh, enter, leave, allocateLigId, moved, dropping, back, cursorAt, growing, swapped, spoiling, withoutPositions, opened, positioned, clearOutput, clearPositions, nextGlyphs, skipGlyph, sync, paysFor, forward, goesBack, backward, moveTo}
 
 module _ {G H : Type 0} (f : G → H) where
   -- ---- the parts of an account
@@ -34,7 +27,19 @@ module _ {G H : Type 0} (f : G → H) where
     unfolding renamed
     state-rename = refl
 
-  ruleset parts = (records.renaming, done-rename, passed-rename, rest-rename, state-rename)
+    pub hasOutput-rename : hasOutput (renamed f a) ≡ hasOutput a
+    unfolding renamed hasOutput
+    hasOutput-rename = refl
+
+    pub hasPositions-rename : hasPositions (renamed f a) ≡ hasPositions a
+    unfolding renamed hasPositions
+    hasPositions-rename = refl
+
+    pub isSpoiled-rename : isSpoiled (renamed f a) ≡ isSpoiled a
+    unfolding renamed isSpoiled
+    isSpoiled-rename = refl
+
+  ruleset parts = (records.renaming, done-rename, passed-rename, rest-rename, state-rename, hasOutput-rename, hasPositions-rename, isSpoiled-rename)
 
   module _ (a : Account G) where
     pub input-rename : input (renamed f a) ≡ map (rename f) (input a)
@@ -78,10 +83,6 @@ module _ {G H : Type 0} (f : G → H) where
     unfolding renamed moved
     moved-rename n = simp parts
 
-    pub passing-rename : (n : ℕ) → passing n (renamed f a) ≡ renamed f (passing n a)
-    unfolding renamed passing
-    passing-rename n = simp parts
-
     pub dropping-rename : (n : ℕ) → dropping n (renamed f a) ≡ renamed f (dropping n a)
     unfolding renamed dropping
     dropping-rename n = simp parts
@@ -90,7 +91,7 @@ module _ {G H : Type 0} (f : G → H) where
     unfolding renamed back
     back-rename n = simp parts
 
-    cursorAt-rename : (n : ℕ) → cursorAt n (renamed f a) ≡ renamed f (cursorAt n a)
+    pub cursorAt-rename : (n : ℕ) → cursorAt n (renamed f a) ≡ renamed f (cursorAt n a)
     unfolding renamed cursorAt input
     cursorAt-rename n = simp parts
 
@@ -105,6 +106,24 @@ module _ {G H : Type 0} (f : G → H) where
     spoiling-rename : spoiling (renamed f a) ≡ renamed f (spoiling a)
     unfolding renamed spoiling len
     spoiling-rename = simp parts
+
+  module _ (a : Account G) (l : List (Glyph G)) where
+    pub withInput-rename : withInput (map (rename f) l) (renamed f a) ≡ renamed f (withInput l a)
+    unfolding renamed withInput
+    withInput-rename = simp parts
+
+    pub withDone-rename : withDone (map (rename f) l) (renamed f a) ≡ renamed f (withDone l a)
+    unfolding renamed withDone
+    withDone-rename = refl
+
+    pub withRest-rename : withRest (map (rename f) l) (renamed f a) ≡ renamed f (withRest l a)
+    unfolding renamed withRest
+    withRest-rename = refl
+
+  -- renamed again
+  pub renamed-twice : {K : Type 0} (g : H → K) (a : Account G) → renamed g (renamed f a) ≡ renamed (λ x. g (f x)) a
+  unfolding renamed
+  renamed-twice g a = simp (records.rename-twice f g)
 
   -- a fresh account holds no glyph
   pub fresh-renamed : (level wants : ℕ) → renamed f (freshAccount level wants) ≡ freshAccount level wants
@@ -140,22 +159,20 @@ module _ {G H : Type 0} (f : G → H) where
   unfolding renamedResult
   answered-rename v a = refl
 
+  pub refused-rename : (r : Refusal) → refused r ≡ renamedResult f (refused r)
+  unfolding renamedResult
+  refused-rename r = refl
+
   pub refuse-rename : (r : Refusal) (b : Bool) (x : Result G) → (refuse r when b else renamedResult f x) ≡ renamedResult f (refuse r when b else x)
   unfolding refuse_when_else_ renamedResult
   refuse-rename r true x = refl
   refuse-rename r false x = refl
 
-  whether-rename : (r : Room) (x y : Result G) → whether r (renamedResult f x) (renamedResult f y) ≡ renamedResult f (whether r x y)
-  unfolding whether renamedResult
-  whether-rename fits x y = refl
-  whether-rename givesUp x y = refl
-  whether-rename over x y = refl
-
   pub needing-rename : (capacity n : ℕ) (a : Account G) (x y : Result G) → needing capacity n (renamed f a) (renamedResult f x) (renamedResult f y) ≡ renamedResult f (needing capacity n a x y)
   unfolding needing
-  needing-rename capacity n a x y = simp (state-rename, whether-rename)
+  needing-rename capacity n a x y = simp (state-rename, refused-rename, choice-rename)
 
-pub ruleset renaming = (records.renaming, done-rename, passed-rename, rest-rename, state-rename, input-rename, len-rename, idx-rename, outLen-rename, limiting-rename, paying-rename, failing-rename, sized-rename, moved-rename, passing-rename, dropping-rename, cond-rename, choice-rename, accepted-rename, answered-rename, refuse-rename, needing-rename)
+pub ruleset renaming = (records.renaming, done-rename, passed-rename, rest-rename, state-rename, hasOutput-rename, hasPositions-rename, isSpoiled-rename, input-rename, len-rename, idx-rename, outLen-rename, limiting-rename, paying-rename, failing-rename, sized-rename, moved-rename, dropping-rename, cursorAt-rename, withInput-rename, withDone-rename, withRest-rename, cond-rename, choice-rename, accepted-rename, answered-rename, refuse-rename, needing-rename)
 
 -- ---- calls
 module _ {G H : Type 0} (f : G → H) (a : Account G) where
@@ -214,4 +231,4 @@ module _ {G H : Type 0} (f : G → H) where
 
   pub moveTo-rename : (a : Account G) (capacity i : ℕ) → moveTo capacity i (renamed f a) ≡ renamedResult f (moveTo capacity i a)
   unfolding moveTo
-  moveTo-rename a capacity i = simp (renaming, forward-rename, backward-rename, cursorAt-rename)
+  moveTo-rename a capacity i = simp (renaming, forward-rename, backward-rename)

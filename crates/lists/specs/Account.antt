@@ -1,17 +1,10 @@
--- The account of a buffer: *done*, *rest* and *passed*, three lists of glyphs whose numbers no definition can look at (records, Glyphs), and what no list shows.
-use mathlib.Core.Bool.{Bool, true, false, cond}
-use mathlib.Core.List.{List, [], _++_, map}
+-- The account of a buffer: three lists of glyphs, whose numbers no definition can look at (records, Glyphs), and what no list shows.
+use mathlib.Core.{Bool.Bool, Bool.true, Bool.false, Bool.cond, List.List, List.[], List._++_, List.map}
 use Prim.Native.Nat.{ℕ, _+_}
-use lib.Dec.{leb}
-use lib.ListN.{length}
-use Rattle.records.specs.declared.Phase.{Phase}
-use Rattle.records.specs.declared.Phase.the-variants.{Plain, Output, Positions, Spoiled}
-use Rattle.records.specs.declared.Position.{Position}
-use Rattle.records.specs.declared.Limits.{Limits}
-use Rattle.records.specs.Limits.{freshLimits, costs, failed, grown}
-use Rattle.records.specs.Glyphs.{Glyph}
+use lib.{Dec.leb, ListN.take, ListN.drop, ListN.length}
+use Rattle.records.specs.{Phase, Plain, Output, Positions, Spoiled, Position, Limits, Glyphs.Glyph, Glyphs.rename, Counters.freshLimits, Counters.costs, Counters.failed, Counters.grown}
 
--- `gone`: how many glyphs of the input no list shows. That is `idx` with output, `len` when spoiled, and else 0
+-- `gone`: how many glyphs of the input no list shows. That is `idx` with output, `len` when spoiled, else 0
 pub record State : Type 0 where
   pub phase : Phase
   pub gone : ℕ
@@ -26,7 +19,6 @@ pub record Account (G : Type 0) : Type 0 where
   pub rest : List (Glyph G)
   pub state : State
 
--- ---- changes of what no list shows
 unfoldable pub inPhase : Phase → State → State
 inPhase p s = record { phase = p; gone = s .gone; limits = s .limits; level = s .level; wants = s .wants }
 
@@ -36,39 +28,25 @@ withGone n s = record { phase = s .phase; gone = n; limits = s .limits; level = 
 unfoldable pub withLimits : Limits → State → State
 withLimits l s = record { phase = s .phase; gone = s .gone; limits = l; level = s .level; wants = s .wants }
 
-abbrev pub isOutput : Phase → Bool
-isOutput Plain = false
-isOutput Output = true
-isOutput Positions = false
-isOutput Spoiled = false
-
-abbrev pub isPositions : Phase → Bool
-isPositions Plain = false
-isPositions Output = false
-isPositions Positions = true
-isPositions Spoiled = false
-
-abbrev pub isSpoiledPhase : Phase → Bool
-isSpoiledPhase Plain = false
-isSpoiledPhase Output = false
-isSpoiledPhase Positions = false
-isSpoiledPhase Spoiled = true
+-- the same account under other glyph numbers
+unfoldable pub renamed : {G H : Type 0} → (G → H) → Account G → Account H
+renamed f a = record { done = map (rename f) (a .done); passed = map (rename f) (a .passed); rest = map (rename f) (a .rest); state = a .state }
 
 module _ {G : Type 0} where
-  abbrev pub hasOutput : Account G → Bool
-  hasOutput a = isOutput (a .state .phase)
+  unfoldable pub hasOutput : Account G → Bool
+  hasOutput a = elim (a .state .phase) [ Plain ↦ false | Output ↦ true | Positions ↦ false | Spoiled ↦ false ]
 
-  abbrev pub hasPositions : Account G → Bool
-  hasPositions a = isPositions (a .state .phase)
+  unfoldable pub hasPositions : Account G → Bool
+  hasPositions a = elim (a .state .phase) [ Plain ↦ false | Output ↦ false | Positions ↦ true | Spoiled ↦ false ]
 
-  abbrev pub isSpoiled : Account G → Bool
-  isSpoiled a = isSpoiledPhase (a .state .phase)
+  unfoldable pub isSpoiled : Account G → Bool
+  isSpoiled a = elim (a .state .phase) [ Plain ↦ false | Output ↦ false | Positions ↦ false | Spoiled ↦ true ]
 
   -- the input that a list shows. A place in the input is counted from `gone` on
   unfoldable pub input : Account G → List (Glyph G)
   input a = a .passed ++ a .rest
 
-  -- `len`, `idx` and `out_len`. They are counted from the lists, so no account contradicts itself there
+  -- `len`, `idx` and `out_len` are counted from the lists, so that no account contradicts itself there
   unfoldable pub len : Account G → ℕ
   len a = a .state .gone + (length (a .passed) + length (a .rest))
 
@@ -86,7 +64,6 @@ module _ {G : Type 0} where
   unfoldable pub freshAccount : ℕ → ℕ → Account G
   freshAccount level wants = record { done = []; passed = []; rest = []; state = record { phase = Plain; gone = 0; limits = freshLimits; level = cond (leb level 3) level 0; wants = wants } }
 
-  -- ---- changes of the limits alone
   unfoldable pub limiting : (Limits → Limits) → Account G → Account G
   limiting h a = record { done = a .done; passed = a .passed; rest = a .rest; state = withLimits (h (a .state .limits)) (a .state) }
 
@@ -98,3 +75,13 @@ module _ {G : Type 0} where
 
   unfoldable pub sized : ℕ → Account G → Account G
   sized n a = limiting (grown n) a
+
+  -- other glyphs for those of the input, of *done*, of *rest*
+  unfoldable pub withInput : List (Glyph G) → Account G → Account G
+  withInput l a = record { done = a .done; passed = take (length (a .passed)) l; rest = drop (length (a .passed)) l; state = a .state }
+
+  unfoldable pub withDone : List (Glyph G) → Account G → Account G
+  withDone l a = record { done = l; passed = a .passed; rest = a .rest; state = a .state }
+
+  unfoldable pub withRest : List (Glyph G) → Account G → Account G
+  withRest l a = record { done = a .done; passed = a .passed; rest = l; state = a .state }

@@ -1,1 +1,2 @@
+pub mod Executable
 pub mod Renaming

@@ -1,10 +1,9 @@
 -- A glyph: its number, and the rest of its words.
--- The number's type is a parameter, G. A definition that is made for every G cannot test, compare or compute a glyph number: it can only hand it on.
-use mathlib.Core.Bool.{cond}
+-- The number's type is a parameter, G. A definition made for every G cannot test, compare or compute a glyph number: it can only hand it on.
+use mathlib.Core.{Bool.cond}
 use Prim.Native.Nat.{ℕ, _+_, _*_, _/_, _%_}
-use lib.Dec.{eqb}
-use lib.Bits.{bitAnd, bitOr}
-use Rattle.records.specs.declared.Position.{Position}
+use lib.{Dec.eqb, Bits.bitAnd, Bits.bitOr}
+use Rattle.records.specs.declared.{Position.Position}
 
 unfoldable pub zeroPosition : Position
 zeroPosition = record { «x_advance» = 0; «y_advance» = 0; «x_offset» = 0; «y_offset» = 0; var = 0 }
@@ -21,7 +20,7 @@ pub record Glyph (G : Type 0) : Type 0 where
   pub glyph : G
   pub info : Info
 
--- the same glyph under another number: the one definition of this crate that makes a glyph number from another
+-- the same glyph under another number: the one definition of this crate that makes a glyph number
 unfoldable pub rename : {G H : Type 0} → (G → H) → Glyph G → Glyph H
 rename f g = record { glyph = f (g .glyph); info = g .info }
 
@@ -29,7 +28,6 @@ rename f g = record { glyph = f (g .glyph); info = g .info }
 unfoldable pub change : {G : Type 0} → (Info → Info) → Glyph G → Glyph G
 change h g = record { glyph = g .glyph; info = h (g .info) }
 
--- ---- changes of a word
 unfoldable pub withMask : ℕ → Info → Info
 withMask m i = record { mask = m; cluster = i .cluster; var0 = i .var0; var1 = i .var1; position = i .position }
 
@@ -53,6 +51,6 @@ flaggedUnless c bits i = cond (eqb (i .cluster) c) i (flagged bits i)
 unfoldable pub key : ℕ → ℕ → Info → ℕ
 key slot m i = bitAnd m (cond (eqb slot 0) (i .var0) (i .var1))
 
--- a filled or pushed glyph has a cluster, and 0 elsewhere
+-- what a pushed or filled glyph has: a cluster, and 0 elsewhere
 unfoldable pub blank : ℕ → Info
 blank c = record { mask = 0; cluster = c; var0 = 0; var1 = 0; position = zeroPosition }

@@ -1,7 +1,8 @@
-pub mod Words
-pub mod Answers
-pub mod Lent
-pub mod Limits
+pub mod Counters
 pub mod Glyphs
 pub mod Ranges
-pub mod Executable
+-- The types that src/ declares, for the crates above.
+pub use declared.{DonePlace.DonePlace, InputPlace.InputPlace, Position.Position, Limits.Limits}
+pub use declared.Phase.{Phase, the-variants.Plain, the-variants.Output, the-variants.Positions, the-variants.Spoiled}
+pub use declared.Answer.{Answer, the-variants.Done, the-variants.Value, the-variants.No}
+pub use declared.Refusal.{Refusal, the-variants.Contradiction, the-variants.WrongPhase, the-variants.OutOfRange, the-variants.BadOperand, the-variants.OverCapacity, the-variants.Unreadable}

@@ -1,0 +1,9 @@
+-- To unfold `executable` is to unfold every definition of this crate and of those below it: for theorems that compute.
+use Rattle.edits.proofs.Executable as edits
+use Rattle.commands.specs.Calls.{perform, step, run}
+use Rattle.commands.specs.Bytes.{mapped, words, at, input, done, bound, forms, readForm, readUpTo, runRead, runBytes}
+use Rattle.commands.specs.Renaming.{renamedOutcome, reworded, overOperands, asItIs, renamedNumber, renamedForm, renamedUpTo, renamedBytes}
+
+unfoldable pub executable : Unit {0}
+unfolding edits.executable perform step run mapped words at input done bound forms readForm readUpTo runRead runBytes renamedOutcome reworded overOperands asItIs renamedNumber renamedForm renamedUpTo renamedBytes
+executable = tt
