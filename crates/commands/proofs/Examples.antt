@@ -196,28 +196,40 @@ table =
     ∷ on 0 0 (pushes 1 (0 ∷ 1 ∷ [])) (call c09-skip-glyph ∷ call c03-clear-output ∷ []) (shows (ok ∷ ok ∷ []) (end 2 0 0 536870911 1) [] [] (g 1 0 0 ∷ g 2 1 0 ∷ []))
     -- giving up: over max_len 0 is answered, within it and over capacity is refusal 5; then `move_to` without output is true, with output 3 comes before false
     ∷ on 0 0 [] (call (c02-set-length 1073741823) ∷ call (c02-set-length 1073741824) ∷ call (c10-move-to 0) ∷ call (c10-move-to 1) ∷ call c03-clear-output ∷ call (c10-move-to 1) ∷ call (c10-move-to 0) ∷ []) (shows (no 5 ∷ okValue 0 ∷ okValue 1 ∷ no 3 ∷ ok ∷ no 3 ∷ okValue 0 ∷ []) (end 0 0 0 536870911 0) [] [] [])
+    -- a `sync` whose size gives up is true, and *rest* is lost
+    ∷ lent 327680 327680 (call c24-enter ∷ call (c02-set-length 65536) ∷ call c03-clear-output ∷ info 9 0 0 0 ∷ []) (call c04-sync ∷ []) (shows (okValue 1 ∷ []) (end 1 0 0 65536 0) [] [] (g 9 0 0 ∷ []))
     -- a failed `sync` keeps len and spoils: then 2, but for 00, which may be 4
     ∷ on 0 0 (pushes 1 (0 ∷ 1 ∷ [])) (call (c02-set-length 1073741824) ∷ call c03-clear-output ∷ call c07-next-glyph ∷ call c04-sync ∷ call c26-allocate-lig-id ∷ call (c16-unsafe-to-concat none none) ∷ call (c00-fresh 0 4) ∷ []) (shows (okValue 0 ∷ ok ∷ ok ∷ okValue 0 ∷ no 2 ∷ no 2 ∷ no 4 ∷ []) (end 2 0 0 536870911 0) [] [] [])
     -- a back move past the cursor grows len and idx first
     ∷ on 0 0 (pushes 1 (0 ∷ 1 ∷ [])) (call c03-clear-output ∷ call c07-next-glyph ∷ info 3 0 5 0 ∷ info 4 0 6 0 ∷ call (c10-move-to 1) ∷ []) (shows (ok ∷ ok ∷ ok ∷ ok ∷ okValue 1 ∷ []) (end 3 0 1 536870908 1) (g 1 0 0 ∷ []) [] (g 3 5 0 ∷ g 4 6 0 ∷ g 2 1 0 ∷ []))
+    -- its growth stays where the second cost fails; `max_ops` is below 0 then, and merges and masks still work
+    ∷ lent 327680 327680 (call c24-enter ∷ call (c02-set-length 65534) ∷ call (c1A-set-masks 0 1 0 1) ∷ call (c02-set-length 2) ∷ call c03-clear-output ∷ call c07-next-glyph ∷ info 3 0 5 0 ∷ info 4 0 6 0 ∷ []) (call (c10-move-to 1) ∷ call (c12-merge-out-clusters (done 1) (done 3)) ∷ call (c10-move-to 2) ∷ []) (shows (okValue 0 ∷ ok ∷ okValue 0 ∷ []) (end 3 2 3 4294967293 0) (g 0 0 0 ∷ g 3 5 0 ∷ g 4 5 0 ∷ []) [] (g 0 0 0 ∷ []))
     -- 0B with both lists empty makes its size; 0E with *rest* empty is 3
     ∷ lent 0 0 [] (call c03-clear-output ∷ record { call = c0B-output-glyph; glyphs = 7 ∷ [] } ∷ replaceGlyphs 0 0 [] ∷ []) (shows (ok ∷ no 5 ∷ no 3 ∷ []) (end 0 0 0 536870911 1) [] [] [])
     -- 0E: 3 before 4 before 5; more numbers than stated are left
     ∷ lent 5 5 (pushes 1 (7 ∷ [])) (call c03-clear-output ∷ replaceGlyphs 2 9 [] ∷ replaceGlyphs 1 2 (8 ∷ []) ∷ replaceGlyphs 1 2 (8 ∷ 9 ∷ []) ∷ replaceGlyphs 1 1 (8 ∷ 9 ∷ []) ∷ []) (shows (ok ∷ no 3 ∷ no 4 ∷ no 5 ∷ ok ∷ []) (end 1 1 1 536870911 1) (g 8 7 0 ∷ []) [] [])
     -- positions: `place` writes four words; a push is then refusal 2, and `clear_positions` is not
     ∷ on 0 0 (pushes 1 (0 ∷ 1 ∷ [])) (call (c06-place (input 0) 1 2 3 4) ∷ call c05-clear-positions ∷ call (c06-place (input 2) 1 2 3 4) ∷ call (c06-place (input 0) 1 2 3 4294967295) ∷ call c1B-reverse ∷ push 3 2 ∷ []) (places (no 2 ∷ ok ∷ no 3 ∷ ok ∷ ok ∷ no 2 ∷ []) (end 2 0 0 536870911 1) (g 2 1 0 ∷ g 1 0 0 ∷ []) ((0 ∷ 0 ∷ 0 ∷ 0 ∷ 0 ∷ []) ∷ (1 ∷ 2 ∷ 3 ∷ 4294967295 ∷ 0 ∷ []) ∷ []))
+    -- the whole run is not to be had behind the cursor; `clear_positions` is, and all are 0 again
+    ∷ record { first = 10240; second = 10240; level = 0; wants = 0; setUp = pushes 1 (0 ∷ 1 ∷ []); script = calls (call c05-clear-positions ∷ call (c06-place (input 1) 5 6 7 8) ∷ call c07-next-glyph ∷ call c1B-reverse ∷ call c05-clear-positions ∷ []); prints = record { answers = ok ∷ ok ∷ ok ∷ no 2 ∷ ok ∷ []; end = end 2 1 0 536870911 1; serial = 0; o = []; p = g 1 0 0 ∷ []; i = g 2 1 0 ∷ []; x = (0 ∷ 0 ∷ 0 ∷ 0 ∷ 0 ∷ []) ∷ (0 ∷ 0 ∷ 0 ∷ 0 ∷ 0 ∷ []) ∷ [] } }
     -- without output a merge may start below the cursor; then s does not fall
     ∷ on 0 0 (pushes 1 (4 ∷ 4 ∷ 3 ∷ 9 ∷ [])) (call (c08-next-glyphs 2) ∷ call (c11-merge-clusters (input 1) (input 3)) ∷ []) (shows (ok ∷ ok ∷ []) (end 4 2 0 536870909 1) [] (g 1 4 0 ∷ g 2 3 0 ∷ []) (g 3 3 0 ∷ g 4 9 0 ∷ []))
+    -- a level above 3 reads as 0; s falls over the equals of the first
+    ∷ on 4 0 (pushes 1 (7 ∷ 5 ∷ 5 ∷ 3 ∷ [])) (call (c11-merge-clusters (input 2) (input 4)) ∷ []) (shows (ok ∷ []) (end 4 0 0 536870909 1) [] [] (g 1 7 0 ∷ g 2 3 0 ∷ g 3 3 0 ∷ g 4 3 0 ∷ []))
     -- a merge at the cursor takes the equal tail of *done* with it
     ∷ on 0 0 (pushes 1 (1 ∷ 4 ∷ 4 ∷ 3 ∷ [])) (call c03-clear-output ∷ call (c08-next-glyphs 2) ∷ call (c11-merge-clusters (input 2) (input 4)) ∷ []) (shows (ok ∷ ok ∷ ok ∷ []) (end 4 2 2 536870909 1) (g 1 1 0 ∷ g 2 3 0 ∷ []) [] (g 3 3 0 ∷ g 4 3 0 ∷ []))
     -- at levels 2 and 3 a merge flags, with its rule of 255
     ∷ on 2 0 (call (c02-set-length 256) ∷ call c1F-reset-clusters ∷ []) (call (c11-merge-clusters (input 0) (input 256)) ∷ []) (shows (ok ∷ []) (end 256 0 0 536870911 1) [] [] (rows 0 0 256))
     ∷ on 2 0 (call (c02-set-length 256) ∷ call c1F-reset-clusters ∷ []) (call (c11-merge-clusters (input 0) (input 255)) ∷ []) (shows (ok ∷ []) (end 256 0 0 536870911 1) [] [] (g 0 0 0 ∷ (rows 1 3 254 ++ (g 0 255 0 ∷ []))))
+    -- the grapheme kinds merge at levels 0 and 3, and flag at 1 and 2
+    ∷ on 3 0 (pushes 1 (0 ∷ 1 ∷ [])) (call (c13-merge-grapheme-clusters (input 0) (input 2)) ∷ []) (shows (ok ∷ []) (end 2 0 0 536870909 1) [] [] (g 1 0 0 ∷ g 2 0 0 ∷ []))
+    ∷ on 1 0 (pushes 1 (0 ∷ 1 ∷ [])) (call (c13-merge-grapheme-clusters (input 0) (input 2)) ∷ []) (shows (ok ∷ []) (end 2 0 0 536870911 1) [] [] (g 1 0 0 ∷ g 2 1 3 ∷ []))
     -- a deleted glyph hands its mask on with its cluster
     ∷ on 0 0 (pushes 1 (5 ∷ [])) (call c03-clear-output ∷ info 8 7 9 0 ∷ info 9 7 9 0 ∷ call c0F-delete-glyph ∷ []) (shows (ok ∷ ok ∷ ok ∷ ok ∷ []) (end 1 1 2 536870911 1) (g 8 5 0 ∷ g 9 5 0 ∷ []) [] [])
     ∷ on 0 0 (made (info 1 6 5 0 ∷ [])) (call c03-clear-output ∷ info 8 1 9 0 ∷ call c0F-delete-glyph ∷ []) (shows (ok ∷ ok ∷ ok ∷ []) (end 1 1 1 536870911 1) (g 8 5 6 ∷ []) [] [])
     -- deletion compares v with the masked key as it is
-    ∷ on 0 0 (made (info 1 0 0 3 ∷ info 2 0 1 2 ∷ [])) (call (c21-delete-glyphs-inplace 0 1 3) ∷ call (c21-delete-glyphs-inplace 0 1 1) ∷ []) (shows (ok ∷ ok ∷ []) (end 1 0 0 536870909 1) [] [] (gv 2 0 0 2 ∷ []))
+    ∷ on 0 0 (made (info 1 0 0 3 ∷ info 2 0 1 2 ∷ [])) (call (c21-delete-glyphs-inplace 0 1 3) ∷ []) (shows (ok ∷ []) (end 2 0 0 536870911 1) [] [] (gv 1 0 0 3 ∷ gv 2 1 0 2 ∷ []))
+    ∷ on 0 0 (made (info 1 0 0 3 ∷ info 2 0 1 2 ∷ [])) (call (c21-delete-glyphs-inplace 0 1 1) ∷ []) (shows (ok ∷ []) (end 1 0 0 536870909 1) [] [] (gv 2 0 0 2 ∷ []))
     -- 18 seeks m among the ends of both ranges, and has no rule of two glyphs
     ∷ on 0 0 (pushes 1 (3 ∷ [])) (call c03-clear-output ∷ info 8 0 5 0 ∷ info 9 0 1 0 ∷ call (c18-unsafe-to-break-from-outbuffer (some (done 0)) (some (input 1))) ∷ []) (shows (ok ∷ ok ∷ ok ∷ ok ∷ []) (end 1 0 2 536870911 1) (g 8 5 3 ∷ g 9 1 0 ∷ []) [] (g 1 3 3 ∷ []))
     -- bounds: a start past its end is too far; over len it is 3, unless too far; an unwanted concat is accepted, after 2
@@ -230,6 +242,8 @@ table =
     ∷ on 1 0 (made (info 1 0 4 0 ∷ info 2 0 5 1 ∷ info 3 0 6 0 ∷ [])) (call (c1E-reverse-graphemes 2 1) ∷ call (c1E-reverse-graphemes 0 1) ∷ []) (shows (no 4 ∷ ok ∷ []) (end 3 0 0 536870909 1) [] [] (gv 3 6 0 0 ∷ gv 1 4 0 0 ∷ gv 2 4 0 1 ∷ []))
     -- bytes: numbers cut off are refusal 6, which ends the reading
     ∷ read (1 ∷ (word 41 ++ (word 7 ++ (3 ∷ 14 ∷ (word 1 ++ (word 2 ++ word 99)))))) (shows (ok ∷ ok ∷ no 6 ∷ []) (end 1 0 0 536870911 1) [] [] (g 41 7 0 ∷ []))
+    -- bytes: an open bound
+    ∷ read (2 ∷ (word 2 ++ (31 ∷ 21 ∷ 255 ∷ 255 ∷ 255 ∷ 255 ∷ 255 ∷ 255 ∷ 255 ∷ 255 ∷ []))) (shows (okValue 1 ∷ ok ∷ ok ∷ []) (end 2 0 0 536870911 1) [] [] (g 0 0 0 ∷ g 0 1 3 ∷ []))
     -- bytes: an unknown command, with a known one behind it
     ∷ read (39 ∷ 3 ∷ []) (shows (no 6 ∷ []) (end 0 0 0 536870911 1) [] [] [])
     ∷ []
@@ -250,4 +264,4 @@ entering-right n some-glyphs within-max fits = simp (some-glyphs, within-max, fi
 -- every row of the table prints what it says
 examples : AllRight table
 unfolding table Right enteredOps page left ran on lent read shows drew places answerLine glyphLine positionLine endLine g gv end pushes call push replaceGlyphs made info rows word bytes-1 page-1 executable
-examples = (entering-right 524287 refl refl refl, (entering-right 524288 refl refl refl, (refl, (refl, (refl, (refl, (refl, (refl, (refl, (refl, (refl, (refl, (refl, (refl, (refl, (refl, (refl, (refl, (refl, (refl, (refl, (refl, (refl, (refl, (refl, (refl, (refl, (refl, (refl, (refl, (refl, (refl, (refl, (refl, (refl, (refl, (refl, (refl, (refl, (refl, tt))))))))))))))))))))))))))))))))))))))))
+examples = (entering-right 524287 refl refl refl, (entering-right 524288 refl refl refl, (refl, (refl, (refl, (refl, (refl, (refl, (refl, (refl, (refl, (refl, (refl, (refl, (refl, (refl, (refl, (refl, (refl, (refl, (refl, (refl, (refl, (refl, (refl, (refl, (refl, (refl, (refl, (refl, (refl, (refl, (refl, (refl, (refl, (refl, (refl, (refl, (refl, (refl, (refl, (refl, (refl, (refl, (refl, (refl, (refl, (refl, tt))))))))))))))))))))))))))))))))))))))))))))))))

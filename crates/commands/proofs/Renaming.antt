@@ -1,11 +1,9 @@
 -- Renaming a call, and a list of calls.
-use mathlib.Core.{Path._≡_, Path.refl, Path.ap, Path._∙_, Bool.true, Bool.false, Bool.cond, List.List, List.[], List._∷_, List.map}
+use mathlib.Core.{Path._≡_, Path.refl, Path.ap, List.List, List.[], List._∷_, List.map}
 use Prim.Native.Nat.{ℕ}
 use lib.{ListN.getD, ListN.List·getD-map}
-use Rattle.records.specs.Glyphs.{zeroPosition}
 use Rattle.lists.specs.{Account.Account, Account.renamed, Results.Result, Results.refused, Results.accepted, Results.answered, Results.Outcome, Results.outcome, Results.renamedResult}
 use Rattle.lists.proofs.Renaming.{state-rename, refuse-rename, fresh-rename, enter-rename, leave-rename, allocateLigId-rename, clearOutput-rename, clearPositions-rename, nextGlyphs-rename, skipGlyph-rename, sync-rename, moveTo-rename}
-use Rattle.edits.specs.{Merging.clustersMerge, Merging.graphemesMerge, Flags.wantsConcat, Flags.wantsTatweel, Flags.plainForm, Flags.outbufferForm}
 use Rattle.edits.proofs.Renaming.{copyGlyph-rename, deleteGlyph-rename, deleteGlyphsInplace-rename, formClusters-rename, mergeDone-rename, mergeInput-rename, outbufferForm-rename, outputGlyph-rename, outputInfo-rename, place-rename, plainForm-rename, propagateFlags-rename, push-rename, replaceGlyphs-rename, resetClusters-rename, reverseClusters-rename, reverseGraphemes-rename, reverseRange-rename, reverseRun-rename, setLength-rename, setMasks-rename, sort-rename}
 use Rattle.commands.specs.Calls.{Call, Worded, perform, step, run, c00-fresh, c01-push, c02-set-length, c03-clear-output, c04-sync, c05-clear-positions, c06-place, c07-next-glyph, c08-next-glyphs, c09-skip-glyph, c0A-copy-glyph, c0B-output-glyph, c0C-output-info, c0D-replace-glyph, c0E-replace-glyphs, c0F-delete-glyph, c10-move-to, c11-merge-clusters, c12-merge-out-clusters, c13-merge-grapheme-clusters, c14-merge-out-grapheme-clusters, c15-unsafe-to-break, c16-unsafe-to-concat, c17-safe-to-insert-tatweel, c18-unsafe-to-break-from-outbuffer, c19-unsafe-to-concat-from-outbuffer, c1A-set-masks, c1B-reverse, c1C-reverse-range, c1D-reverse-clusters, c1E-reverse-graphemes, c1F-reset-clusters, c20-sort, c21-delete-glyphs-inplace, c22-form-clusters, c23-propagate-flags, c24-enter, c25-leave, c26-allocate-lig-id}
 use Rattle.commands.specs.Renaming.{renamedOutcome, reworded}
@@ -14,51 +12,50 @@ module _ {G H : Type 0} (f : G → H) (z : G) where
   getD-rename : (gs : List G) → getD (map f gs) 0 (f z) ≡ f (getD gs 0 z)
   getD-rename gs = List·getD-map f gs 0 z
 
-  wants-rename : (a : Account G) → (renamed f a) .state .wants ≡ a .state .wants
-  wants-rename a = ap (λ s. s .wants) (state-rename f a)
+  ruleset calls = (getD-rename, state-rename, fresh-rename, enter-rename, leave-rename, allocateLigId-rename, clearOutput-rename, clearPositions-rename, nextGlyphs-rename, skipGlyph-rename, sync-rename, moveTo-rename, copyGlyph-rename, deleteGlyph-rename, deleteGlyphsInplace-rename, formClusters-rename, mergeDone-rename, mergeInput-rename, outbufferForm-rename, place-rename, plainForm-rename, propagateFlags-rename, replaceGlyphs-rename, resetClusters-rename, reverseClusters-rename, reverseGraphemes-rename, reverseRange-rename, reverseRun-rename, setMasks-rename, sort-rename)
 
   -- every call
   perform-rename : (capacity : ℕ) (c : Call) (gs : List G) (a : Account G) → perform (f z) capacity c (map f gs) (renamed f a) ≡ renamedResult f (perform z capacity c gs a)
   unfolding perform
-  perform-rename capacity (c00-fresh level wants) gs a = fresh-rename f a level wants
-  perform-rename capacity (c01-push cluster) gs a = rw (getD-rename gs) (push-rename f a capacity (getD gs 0 z) cluster)
-  perform-rename capacity (c02-set-length n) gs a = setLength-rename f a z capacity n
-  perform-rename capacity c03-clear-output gs a = clearOutput-rename f a
-  perform-rename capacity c04-sync gs a = sync-rename f a capacity
-  perform-rename capacity c05-clear-positions gs a = clearPositions-rename f a
-  perform-rename capacity (c06-place i xa ya xo yo) gs a = place-rename f a i xa ya xo yo
-  perform-rename capacity c07-next-glyph gs a = nextGlyphs-rename f a capacity 1
-  perform-rename capacity (c08-next-glyphs n) gs a = nextGlyphs-rename f a capacity n
-  perform-rename capacity c09-skip-glyph gs a = skipGlyph-rename f a
-  perform-rename capacity c0A-copy-glyph gs a = copyGlyph-rename f a capacity
-  perform-rename capacity c0B-output-glyph gs a = rw (getD-rename gs) (outputGlyph-rename f a capacity (getD gs 0 z))
-  perform-rename capacity (c0C-output-info mask cluster var0 var1) gs a = rw (getD-rename gs) (outputInfo-rename f a capacity (getD gs 0 z) (record { mask = mask; cluster = cluster; var0 = var0; var1 = var1; position = zeroPosition }))
-  perform-rename capacity c0D-replace-glyph gs a = rw (getD-rename gs) (replaceGlyphs-rename f a capacity 1 1 (getD gs 0 z ∷ []))
-  perform-rename capacity (c0E-replace-glyphs num-in num-out) gs a = replaceGlyphs-rename f a capacity num-in num-out gs
-  perform-rename capacity c0F-delete-glyph gs a = deleteGlyph-rename f a
-  perform-rename capacity (c10-move-to i) gs a = moveTo-rename f a capacity i
-  perform-rename capacity (c11-merge-clusters s e) gs a = mergeInput-rename f clustersMerge s e a
-  perform-rename capacity (c12-merge-out-clusters s e) gs a = mergeDone-rename f clustersMerge s e a
-  perform-rename capacity (c13-merge-grapheme-clusters s e) gs a = mergeInput-rename f graphemesMerge s e a
-  perform-rename capacity (c14-merge-out-grapheme-clusters s e) gs a = mergeDone-rename f graphemesMerge s e a
-  perform-rename capacity (c15-unsafe-to-break s e) gs a = plainForm-rename f true true 3 s e a
-  perform-rename capacity (c16-unsafe-to-concat s e) gs a = ap (λ (v : ℕ). plainForm false (wantsConcat v) 2 s e (renamed f a)) (wants-rename a) ∙ plainForm-rename f false (wantsConcat (a .state .wants)) 2 s e a
-  perform-rename capacity (c17-safe-to-insert-tatweel s e) gs a = ap (λ (v : ℕ). plainForm true true (cond (wantsTatweel v) 4 3) s e (renamed f a)) (wants-rename a) ∙ plainForm-rename f true true (cond (wantsTatweel (a .state .wants)) 4 3) s e a
-  perform-rename capacity (c18-unsafe-to-break-from-outbuffer s e) gs a = outbufferForm-rename f true true 3 s e a
-  perform-rename capacity (c19-unsafe-to-concat-from-outbuffer s e) gs a = ap (λ (v : ℕ). outbufferForm false (wantsConcat v) 2 s e (renamed f a)) (wants-rename a) ∙ outbufferForm-rename f false (wantsConcat (a .state .wants)) 2 s e a
-  perform-rename capacity (c1A-set-masks value mask s e) gs a = setMasks-rename f a value mask s e
-  perform-rename capacity c1B-reverse gs a = reverseRun-rename f a
-  perform-rename capacity (c1C-reverse-range s e) gs a = reverseRange-rename f a s e
-  perform-rename capacity c1D-reverse-clusters gs a = reverseClusters-rename f a
-  perform-rename capacity (c1E-reverse-graphemes slot mask) gs a = reverseGraphemes-rename f a slot mask
-  perform-rename capacity c1F-reset-clusters gs a = resetClusters-rename f a
-  perform-rename capacity (c20-sort s e slot mask) gs a = sort-rename f a s e slot mask
-  perform-rename capacity (c21-delete-glyphs-inplace slot mask v) gs a = deleteGlyphsInplace-rename f a slot mask v
-  perform-rename capacity (c22-form-clusters slot mask) gs a = formClusters-rename f a slot mask
-  perform-rename capacity c23-propagate-flags gs a = propagateFlags-rename f a
-  perform-rename capacity c24-enter gs a = enter-rename f a
-  perform-rename capacity c25-leave gs a = leave-rename f a
-  perform-rename capacity c26-allocate-lig-id gs a = allocateLigId-rename f a
+  perform-rename capacity (c00-fresh level wants) gs a = simp calls
+  perform-rename capacity (c01-push cluster) gs a = simp (calls, push-rename f)
+  perform-rename capacity (c02-set-length n) gs a = simp (setLength-rename f)
+  perform-rename capacity c03-clear-output gs a = simp calls
+  perform-rename capacity c04-sync gs a = simp calls
+  perform-rename capacity c05-clear-positions gs a = simp calls
+  perform-rename capacity (c06-place i xa ya xo yo) gs a = simp calls
+  perform-rename capacity c07-next-glyph gs a = simp calls
+  perform-rename capacity (c08-next-glyphs n) gs a = simp calls
+  perform-rename capacity c09-skip-glyph gs a = simp calls
+  perform-rename capacity c0A-copy-glyph gs a = simp calls
+  perform-rename capacity c0B-output-glyph gs a = simp (calls, outputGlyph-rename f)
+  perform-rename capacity (c0C-output-info mask cluster var0 var1) gs a = simp (calls, outputInfo-rename f)
+  perform-rename capacity c0D-replace-glyph gs a = rw getD-rename (replaceGlyphs-rename f a capacity 1 1 (getD gs 0 z ∷ []))
+  perform-rename capacity (c0E-replace-glyphs num-in num-out) gs a = simp calls
+  perform-rename capacity c0F-delete-glyph gs a = simp calls
+  perform-rename capacity (c10-move-to i) gs a = simp calls
+  perform-rename capacity (c11-merge-clusters s e) gs a = simp calls
+  perform-rename capacity (c12-merge-out-clusters s e) gs a = simp calls
+  perform-rename capacity (c13-merge-grapheme-clusters s e) gs a = simp calls
+  perform-rename capacity (c14-merge-out-grapheme-clusters s e) gs a = simp calls
+  perform-rename capacity (c15-unsafe-to-break s e) gs a = simp calls
+  perform-rename capacity (c16-unsafe-to-concat s e) gs a = simp calls
+  perform-rename capacity (c17-safe-to-insert-tatweel s e) gs a = simp calls
+  perform-rename capacity (c18-unsafe-to-break-from-outbuffer s e) gs a = simp calls
+  perform-rename capacity (c19-unsafe-to-concat-from-outbuffer s e) gs a = simp calls
+  perform-rename capacity (c1A-set-masks value mask s e) gs a = simp calls
+  perform-rename capacity c1B-reverse gs a = simp calls
+  perform-rename capacity (c1C-reverse-range s e) gs a = simp calls
+  perform-rename capacity c1D-reverse-clusters gs a = simp calls
+  perform-rename capacity (c1E-reverse-graphemes slot mask) gs a = simp calls
+  perform-rename capacity c1F-reset-clusters gs a = simp calls
+  perform-rename capacity (c20-sort s e slot mask) gs a = simp calls
+  perform-rename capacity (c21-delete-glyphs-inplace slot mask v) gs a = simp calls
+  perform-rename capacity (c22-form-clusters slot mask) gs a = simp calls
+  perform-rename capacity c23-propagate-flags gs a = simp calls
+  perform-rename capacity c24-enter gs a = simp calls
+  perform-rename capacity c25-leave gs a = simp calls
+  perform-rename capacity c26-allocate-lig-id gs a = simp calls
 
   outcome-rename : (a : Account G) (x : Result G) → outcome (renamed f a) (renamedResult f x) ≡ renamedOutcome f (outcome a x)
   unfolding outcome renamedResult renamedOutcome

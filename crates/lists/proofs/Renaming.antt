@@ -1,8 +1,7 @@
 -- Renaming an account: the calls of this crate commute with it. Each law takes the renaming outwards.
 use mathlib.Core.{Path._≡_, Path.refl, Bool.Bool, Bool.true, Bool.false, Bool.cond, List.List, List.map}
 use Prim.Native.Nat.{ℕ}
-use lib.{Dec.ltb}
-use Rattle.records.specs.{Refusal, BadOperand, Limits, Glyphs.Glyph, Glyphs.rename}
+use Rattle.records.specs.{Refusal, Limits, Glyphs.Glyph, Glyphs.rename}
 use Rattle.records.proofs.Renaming as records
 use Rattle.lists.specs.Account.{Account, hasOutput, hasPositions, isSpoiled, input, len, idx, outLen, positions, freshAccount, limiting, paying, failing, sized, withInput, withDone, withRest, renamed}
 use Rattle.lists.specs.Results.{Result, refused, accepted, answered, refuse_when_else_, needing, renamedResult}
@@ -178,7 +177,7 @@ pub ruleset renaming = (records.renaming, done-rename, passed-rename, rest-renam
 module _ {G H : Type 0} (f : G → H) (a : Account G) where
   pub fresh-rename : (level wants : ℕ) → fresh level wants (renamed f a) ≡ renamedResult f (fresh level wants a)
   unfolding fresh renamed renamedResult freshAccount
-  fresh-rename level wants = refuse-rename f BadOperand (ltb 3 wants) (accepted (freshAccount level wants))
+  fresh-rename level wants = refuse-rename f _ _ (accepted (freshAccount level wants))
 
   pub enter-rename : enter (renamed f a) ≡ renamedResult f (enter a)
   unfolding enter

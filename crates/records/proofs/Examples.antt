@@ -1,0 +1,42 @@
+-- Document 01's examples, as far as counters and single glyphs go.
+use mathlib.Core.{Path._≡_, Path.refl, Bool.Bool, Bool.true, Bool.false}
+use Prim.Native.Nat.{ℕ}
+use Rattle.records.specs.declared.{Limits.Limits}
+use Rattle.records.specs.Counters.{refusalNumber, capacityOf, rightlyLent, freshLimits, costs, entered, left, ligSerial}
+use Rattle.records.specs.Glyphs.{Info, zeroPosition, setCluster}
+use Rattle.records.proofs.Executable.{executable}
+
+-- `max_ops` at m, and n paid
+paid : ℕ → ℕ → Limits
+paid m n = costs n (record { allocated = 0; «max_len» = 0; «max_ops» = m; successful = true; serial = 0 })
+
+marked : ℕ → ℕ → Info
+marked m c = record { mask = m; cluster = c; var0 = 0; var1 = 0; position = zeroPosition }
+
+-- below 0 the cost fails; past −2^31 the word comes back above 0
+wraps : ((paid 3 3) .successful ≡ true) × ((paid 2147483647 0) .successful ≡ true) × ((paid 3 4) .«max_ops» ≡ 4294967295) × ((paid 3 4) .successful ≡ false) × ((paid 2147483648 1) .«max_ops» ≡ 2147483647) × ((paid 3 4294967297) .«max_ops» ≡ 2)
+unfolding paid executable
+wraps = (refl, refl, refl, refl, refl, refl)
+
+-- ★2, ★4: `enter`; and `leave` after it
+enters : ((entered 16 freshLimits) .«max_ops» ≡ 65536) × ((entered 17 freshLimits) .«max_ops» ≡ 69632) × ((entered 524287 freshLimits) .«max_ops» ≡ 2147479552) × ((entered 524288 freshLimits) .«max_ops» ≡ 536870911)
+unfolding executable
+enters = (refl, refl, refl, refl)
+
+leaves : left (entered 300 freshLimits) ≡ freshLimits
+unfolding executable
+leaves = refl
+
+-- ★5
+draws : (ligSerial 7 ≡ 9) × (ligSerial 255 ≡ 1) × (ligSerial 0 ≡ 1)
+unfolding executable
+draws = (refl, refl, refl)
+
+-- mask 13 keeps what is above its low three bits; where the cluster is the same nothing changes
+clusters : (setCluster 4 6 (marked 13 5) ≡ marked 14 4) × (setCluster 5 6 (marked 13 5) ≡ marked 13 5)
+unfolding marked executable
+clusters = (refl, refl)
+
+slices : (rightlyLent 10240 10240 ≡ true) × (capacityOf 10240 ≡ 2048) × (rightlyLent 10 15 ≡ false) × (rightlyLent 12 12 ≡ false) × (rightlyLent 5242880 5242880 ≡ true) × (rightlyLent 5242885 5242885 ≡ false)
+unfolding executable
+slices = (refl, refl, refl, refl, refl, refl)
