@@ -1,6 +1,6 @@
 -- Renaming the glyph numbers in a string of bytes: it reads as the same calls, reworded, and ends in refusal 6 where the first does.
-use mathlib.Core.{Path._≡_, Path.refl, Path.ap, Path.sym, Path._∙_, Option.Option, Option.none, Option.some, List.List, List.[], List._∷_, List._++_, List.map, List.map-id}
-use Prim.Native.Nat.{ℕ, zero, suc, _+_, _*_, _/_, _%_, _<_}
+use mathlib.Core.{Path._≡_, Path.refl, Path.ap, Path._∙_, Option.Option, Option.none, Option.some, List.List, List.[], List._∷_, List._++_, List.map, List.map-id}
+use Prim.Native.Nat.{ℕ, zero, suc, _+_, _/_, _%_, _<_}
 use native.Mathlib.Omega.{arith}
 use lib.{ListN.length, ListN.getD, ListN.take, ListN.drop}
 use Rattle.lists.specs.{Account.Account, Account.renamed, Results.Outcome, Results.outcome}

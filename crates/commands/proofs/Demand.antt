@@ -6,7 +6,7 @@ use Rattle.records.proofs.Renaming.{words-rename, numbers-rename}
 use Rattle.lists.specs.{Account.Account, Account.State, Account.freshAccount, Account.renamed, Results.Outcome}
 use Rattle.lists.proofs.Renaming.{done-rename, passed-rename, rest-rename, state-rename, idx-rename, len-rename, outLen-rename, positions-rename, fresh-renamed, renamed-twice}
 use Rattle.commands.specs.{Calls.Worded, Calls.run, Bytes.runBytes, Renaming.renamedOutcome, Renaming.reworded, Renaming.renamedBytes}
-use Rattle.commands.specs.Demand.{SameList, SameAccount, SameOutcome, SameOutcomes, Renamed, forget}
+use Rattle.commands.specs.Demand.{SameList, SameAccount, SameOutcomes, Renamed, forget}
 use Rattle.commands.proofs.{Renaming.run-rename, Bytes.runBytes-rename}
 
 -- ---- what renaming leaves as it was

@@ -240,6 +240,17 @@ table =
     ∷ on 0 2 (made (info 1 4 5 0 ∷ [])) (call c23-propagate-flags ∷ []) (shows (ok ∷ []) (end 1 0 0 536870911 1) [] [] (g 1 5 5 ∷ []))
     -- at level 1 each grapheme is merged, then the groups turn
     ∷ on 1 0 (made (info 1 0 4 0 ∷ info 2 0 5 1 ∷ info 3 0 6 0 ∷ [])) (call (c1E-reverse-graphemes 2 1) ∷ call (c1E-reverse-graphemes 0 1) ∷ []) (shows (no 4 ∷ ok ∷ []) (end 3 0 0 536870909 1) [] [] (gv 3 6 0 0 ∷ gv 1 4 0 0 ∷ gv 2 4 0 1 ∷ []))
+    -- copies and replacements are of the first of *rest*
+    ∷ on 0 0 (pushes 1 (4 ∷ [])) (call c03-clear-output ∷ call c0A-copy-glyph ∷ record { call = c0D-replace-glyph; glyphs = 9 ∷ [] } ∷ []) (shows (ok ∷ ok ∷ ok ∷ []) (end 1 1 2 536870911 1) (g 1 4 0 ∷ g 9 4 0 ∷ []) [] [])
+    -- 14 merges at levels 0 and 3, and does nothing at 1 and 2
+    ∷ on 3 0 [] (call c03-clear-output ∷ info 1 0 5 0 ∷ info 2 0 4 0 ∷ call (c12-merge-out-clusters (done 0) (done 2)) ∷ call (c14-merge-out-grapheme-clusters (done 0) (done 2)) ∷ []) (shows (ok ∷ ok ∷ ok ∷ ok ∷ ok ∷ []) (end 0 0 2 536870909 1) (g 1 4 0 ∷ g 2 4 0 ∷ []) [] [])
+    -- 17, wanted and unwanted
+    ∷ on 0 2 (pushes 1 (0 ∷ 1 ∷ [])) (call (c17-safe-to-insert-tatweel none none) ∷ []) (shows (ok ∷ []) (end 2 0 0 536870911 1) [] [] (g 1 0 0 ∷ g 2 1 4 ∷ []))
+    ∷ on 0 1 (pushes 1 (0 ∷ 1 ∷ [])) (call (c17-safe-to-insert-tatweel none none) ∷ []) (shows (ok ∷ []) (end 2 0 0 536870911 1) [] [] (g 1 0 0 ∷ g 2 1 3 ∷ []))
+    -- reversals: of a range, of clusters
+    ∷ on 0 0 (pushes 1 (0 ∷ 1 ∷ 1 ∷ [])) (call (c1C-reverse-range (input 0) (input 2)) ∷ call (c1C-reverse-range (input 2) (input 4)) ∷ call c1D-reverse-clusters ∷ []) (shows (ok ∷ no 3 ∷ ok ∷ []) (end 3 0 0 536870911 1) [] [] (g 3 1 0 ∷ g 1 0 0 ∷ g 2 1 0 ∷ []))
+    -- `form_clusters` merges each grapheme; `leave` gives the limits back
+    ∷ on 0 0 (made (info 1 0 4 0 ∷ info 2 0 5 1 ∷ info 3 0 6 0 ∷ [])) (call c24-enter ∷ call (c22-form-clusters 0 1) ∷ call c25-leave ∷ []) (shows (ok ∷ ok ∷ ok ∷ []) (end 3 0 0 536870911 1) [] [] (gv 1 4 0 0 ∷ gv 2 4 0 1 ∷ gv 3 6 0 0 ∷ []))
     -- bytes: numbers cut off are refusal 6, which ends the reading
     ∷ read (1 ∷ (word 41 ++ (word 7 ++ (3 ∷ 14 ∷ (word 1 ++ (word 2 ++ word 99)))))) (shows (ok ∷ ok ∷ no 6 ∷ []) (end 1 0 0 536870911 1) [] [] (g 41 7 0 ∷ []))
     -- bytes: an open bound
@@ -264,4 +275,4 @@ entering-right n some-glyphs within-max fits = simp (some-glyphs, within-max, fi
 -- every row of the table prints what it says
 examples : AllRight table
 unfolding table Right enteredOps page left ran on lent read shows drew places answerLine glyphLine positionLine endLine g gv end pushes call push replaceGlyphs made info rows word bytes-1 page-1 executable
-examples = (entering-right 524287 refl refl refl, (entering-right 524288 refl refl refl, (refl, (refl, (refl, (refl, (refl, (refl, (refl, (refl, (refl, (refl, (refl, (refl, (refl, (refl, (refl, (refl, (refl, (refl, (refl, (refl, (refl, (refl, (refl, (refl, (refl, (refl, (refl, (refl, (refl, (refl, (refl, (refl, (refl, (refl, (refl, (refl, (refl, (refl, (refl, (refl, (refl, (refl, (refl, (refl, (refl, (refl, tt))))))))))))))))))))))))))))))))))))))))))))))))
+examples = (entering-right 524287 refl refl refl, (entering-right 524288 refl refl refl, (refl, (refl, (refl, (refl, (refl, (refl, (refl, (refl, (refl, (refl, (refl, (refl, (refl, (refl, (refl, (refl, (refl, (refl, (refl, (refl, (refl, (refl, (refl, (refl, (refl, (refl, (refl, (refl, (refl, (refl, (refl, (refl, (refl, (refl, (refl, (refl, (refl, (refl, (refl, (refl, (refl, (refl, (refl, (refl, (refl, (refl, (refl, (refl, (refl, (refl, (refl, (refl, tt))))))))))))))))))))))))))))))))))))))))))))))))))))))

@@ -5,8 +5,7 @@ use lib.{ListN.getD}
 use Rattle.records.specs.{DonePlace, InputPlace, Contradiction, Counters.capacityOf, Counters.rightlyLent, Glyphs.zeroPosition}
 use Rattle.lists.specs.{Account.Account, Results.Result, Results.Outcome, Results.outcome, Results.refuse_when_else_}
 use Rattle.lists.specs.Cursor.{fresh, enter, leave, allocateLigId, clearOutput, clearPositions, nextGlyphs, skipGlyph, sync, moveTo}
-use Rattle.edits.specs.{Writing.copyGlyph, Writing.outputGlyph, Writing.outputInfo, Writing.replaceGlyphs, Deleting.deleteGlyph, Deleting.deleteGlyphsInplace}
-use Rattle.edits.specs.{Merging.mergeInput, Merging.mergeDone, Merging.clustersMerge, Merging.graphemesMerge, Flags.plainForm, Flags.outbufferForm, Flags.wantsConcat, Flags.wantsTatweel}
+use Rattle.edits.specs.{Writing.copyGlyph, Writing.outputGlyph, Writing.outputInfo, Writing.replaceGlyphs, Deleting.deleteGlyph, Deleting.deleteGlyphsInplace, Merging.mergeInput, Merging.mergeDone, Merging.clustersMerge, Merging.graphemesMerge, Flags.plainForm, Flags.outbufferForm, Flags.wantsConcat, Flags.wantsTatweel}
 use Rattle.edits.specs.WholeRun.{push, setLength, place, setMasks, reverseRun, reverseRange, resetClusters, sort}
 use Rattle.edits.specs.Groups.{reverseClusters, reverseGraphemes, formClusters, propagateFlags}
 

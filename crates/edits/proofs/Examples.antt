@@ -1,13 +1,13 @@
 -- Examples of the edits, on small accounts.
-use mathlib.Core.{Path._≡_, Path.refl, Bool.Bool, Bool.true, Bool.false, Option.none, Option.some, List.List, List.[], List._∷_}
+use mathlib.Core.{Path._≡_, Path.refl, Bool.true, Option.some, List.List, List.[], List._∷_}
 use Prim.Native.Nat.{ℕ}
-use Rattle.records.specs.{Phase, Plain, Output, InputPlace, DonePlace, OutOfRange, BadOperand, OverCapacity, Counters.freshLimits, Counters.costs, Counters.grown, Glyphs.Glyph, Glyphs.zeroPosition}
-use Rattle.lists.specs.{Account.Account, Account.limiting, Results.Result, Results.refused, Results.accepted}
+use Rattle.records.specs.{Phase, Plain, Output, InputPlace, OutOfRange, BadOperand, OverCapacity, Counters.freshLimits, Counters.costs, Counters.grown, Glyphs.Glyph, Glyphs.zeroPosition}
+use Rattle.lists.specs.{Account.Account, Account.limiting, Results.refused, Results.accepted}
 use Rattle.edits.specs.Writing.{copyGlyph, outputGlyph, replaceGlyphs}
 use Rattle.edits.specs.Merging.{mergeInput, mergeDone, clustersMerge}
 use Rattle.edits.specs.Deleting.{deleteGlyph}
 use Rattle.edits.specs.Flags.{plainForm, outbufferForm}
-use Rattle.edits.specs.WholeRun.{setMasks, sort, reverseRange}
+use Rattle.edits.specs.WholeRun.{setMasks, sort}
 use Rattle.edits.specs.Groups.{propagateFlags, settled}
 use Rattle.edits.proofs.Executable.{executable}
 

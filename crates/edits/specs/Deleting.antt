@@ -11,8 +11,7 @@ unfoldable pub survives : List ℕ → List ℕ → Bool
 survives cs ds = (ltb 1 (length cs) && is (first cs) (getD cs 1 0)) || (ltb 0 (length ds) && is (first cs) (last ds))
 
 module _ {G : Type 0} where
-  -- the glyph at the cursor
-  unfoldable pub current : Account G → Info
+  unfoldable pub current : Account G → Info  -- of the glyph at the cursor
   current a = getD (infos (a .rest)) 0 (blank 0)
 
   -- "if the last of *done* is above c, its equal tail becomes c, given the dropped mask"
@@ -46,8 +45,7 @@ module _ {G : Type 0} where
   deletedEach slot mask v zero a = a
   deletedEach slot mask v (suc n) a = deletedEach slot mask v n (cond (is v (key slot mask (current a))) (deleted a) (kept a))
 
-  -- the glyphs kept are the run
-  unfoldable pub keptRun : Account G → Account G
+  unfoldable pub keptRun : Account G → Account G  -- the glyphs kept are the run
   keptRun a = record { done = []; passed = []; rest = a .done; state = withGone 0 (a .state) }
 
   unfoldable pub deleteGlyphsInplace : ℕ → ℕ → ℕ → Account G → Result G  -- 21

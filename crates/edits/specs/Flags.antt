@@ -1,5 +1,5 @@
 -- Flags: calls 15 to 19.
-use mathlib.Core.{Bool.Bool, Bool.true, Bool.false, Bool.cond, Bool.not, Bool._&&_, Bool._||_, Option.Option, Option.none, Option.some, List.List}
+use mathlib.Core.{Bool.Bool, Bool.false, Bool.cond, Bool.not, Bool._&&_, Bool._||_, Option.Option, Option.none, Option.some, List.List}
 use Prim.Native.Nat.{ℕ, _+_, _-_, _/_, _%_, min}
 use lib.{Dec.ltb, ListN.take, ListN.drop, Seq.slice}
 use Rattle.records.specs.{DonePlace, InputPlace, WrongPhase, OutOfRange, Glyphs.Glyph, Glyphs.flagged, Glyphs.flaggedUnless, Ranges.clusters, Ranges.edit, Ranges.is, Ranges.isnt, Ranges.least, Ranges.first, Ranges.last, Ranges.heads, Ranges.tails}

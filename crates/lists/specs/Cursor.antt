@@ -36,16 +36,14 @@ module _ {G : Type 0} where
       let k = length (a .done) - n in
       record { done = take k (a .done); passed = a .passed; rest = drop k (a .done) ++ a .rest; state = withGone (a .state .gone - n) (a .state) }
 
-  -- without output, the cursor at i
-  unfoldable pub cursorAt : ℕ → Account G → Account G
+  unfoldable pub cursorAt : ℕ → Account G → Account G  -- without output
   cursorAt i a = record { done = a .done; passed = take i (input a); rest = drop i (input a); state = a .state }
 
   -- "then `len` and `idx` grow by n": by input that no list shows
   unfoldable pub growing : ℕ → Account G → Account G
   growing n a = record { done = a .done; passed = a .passed; rest = a .rest; state = withGone (a .state .gone + n) (a .state) }
 
-  -- *done* becomes the run, `idx` 0
-  unfoldable pub swapped : Account G → Account G
+  unfoldable pub swapped : Account G → Account G  -- *done* becomes the run, `idx` 0
   swapped a = record { done = []; passed = []; rest = a .done; state = inPhase Plain (withGone 0 (a .state)) }
 
   -- "keeps `len`, zeroes `idx` and `out_len`, and the phase is spoiled"

@@ -1,8 +1,8 @@
 -- Document 01's examples, as far as counters and single glyphs go.
-use mathlib.Core.{Path._≡_, Path.refl, Bool.Bool, Bool.true, Bool.false}
+use mathlib.Core.{Path._≡_, Path.refl, Bool.true, Bool.false}
 use Prim.Native.Nat.{ℕ}
 use Rattle.records.specs.declared.{Limits.Limits}
-use Rattle.records.specs.Counters.{refusalNumber, capacityOf, rightlyLent, freshLimits, costs, entered, left, ligSerial}
+use Rattle.records.specs.Counters.{capacityOf, rightlyLent, freshLimits, costs, entered, left, ligSerial}
 use Rattle.records.specs.Glyphs.{Info, zeroPosition, setCluster}
 use Rattle.records.proofs.Executable.{executable}
 

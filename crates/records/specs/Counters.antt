@@ -20,7 +20,7 @@ capacityOf words = words / 5
 
 -- what refusal 1 reads of the slices: "unequal, not whole glyphs, too long", for "at most 1,048,576 glyphs"
 unfoldable pub rightlyLent : ℕ → ℕ → Bool
-rightlyLent first second = eqb first second && (eqb (first % 5) 0 && leb (first / 5) 1048576)
+rightlyLent first second = eqb first second && (eqb (first % 5) 0 && leb (capacityOf first) 1048576)
 
 -- "wrapping in 32 signed bits as a release build does": a signed number is held as its word, which is below 0 from 2^31 on
 unfoldable pub wrappingSub : ℕ → ℕ → ℕ
