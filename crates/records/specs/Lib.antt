@@ -1,6 +1,7 @@
 pub mod Counters
 pub mod Glyphs
 pub mod Ranges
+pub mod View
 -- The types that src/ declares, for the crates above.
 pub use declared.{DonePlace.DonePlace, InputPlace.InputPlace, Position.Position, Limits.Limits}
 pub use declared.Phase.{Phase, the-variants.Plain, the-variants.Output, the-variants.Positions, the-variants.Spoiled}

@@ -1,4 +1,8 @@
-// Records of the shaping buffer. Here stand the types that the account in specs/ and the code share.
+// Records of the shaping buffer: the words of glyphs and positions, and the counters that no list shows.
+// Nobody above this crate knows where a word lies.
+pub mod counters;
+pub mod glyphs;
+pub mod positions;
 
 // The phase of a buffer. In phase Output some of the input has become output.
 pub enum Phase {
@@ -13,6 +17,15 @@ pub struct DonePlace(pub usize);
 
 // A place in the input. It never stands for a place in *done*.
 pub struct InputPlace(pub usize);
+
+// A glyph: five words.
+pub struct Glyph {
+    pub glyph: u32,
+    pub mask: u32,
+    pub cluster: u32,
+    pub var0: u32,
+    pub var1: u32,
+}
 
 // A position: five words, the first four of them signed.
 pub struct Position {
@@ -32,7 +45,7 @@ pub struct Limits {
     pub serial: u8,
 }
 
-// Why a call is turned back. specs/Answers.antt has the number of each.
+// Why a call is turned back. specs/Counters.antt has the number of each.
 pub enum Refusal {
     Contradiction,
     WrongPhase,

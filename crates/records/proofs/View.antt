@@ -1,0 +1,183 @@
+-- Laws of the view: what is said of words, and what the crates above may use of it.
+use mathlib.Core.{Path._≡_, Path.refl, Path.sym, Path.ap, Path._∙_, Bool.Bool, Bool.true, Bool.false, Bool._&&_, Bool.and-eq-true-iff, List.List, List.[], List._∷_}
+use Prim.Native.Nat.{ℕ, zero, suc, _+_, _*_, _/_, _%_, _≤_, _<_}
+use native.Mathlib.Nat.{suc-add}
+use native.Mathlib.Omega.{arith}
+use lib.{ListN.length, ListN.getD, ListN.set, ListN.drop, ListN.length-map, ListN.length-drop, ListN.List·getD-map, Seq.set-getD, Seq.drop-nil, Dec.eqb, Dec.leb, Bits.bitAnd, Bits.bitOr}
+use borrow.Author.Tests.{eq-eqb, ne-eqb, eqb-true, leb-true}
+use Rattle.records.specs.declared.{Position.Position, Glyph.Glyph as Words}
+use Rattle.records.specs.Counters.{capacityOf, rightlyLent}
+use Rattle.records.specs.Glyphs.{Glyph, Info, change, setCluster, withMask, withCluster, flagged, flaggedUnless, key, zeroPosition}
+use Rattle.records.specs.Ranges.{clusters}
+use Rattle.records.specs.View.{fives, glyphOf, glyphs, positionOf, placements, wordsFrom, seen, zeroGlyph, wordsAt, placeAt, putFive, putWords, putPlace}
+
+five-suc : (i : ℕ) → 5 * suc i ≡ suc (suc (suc (suc (suc (5 * i)))))
+five-suc i = omega arith
+
+-- ---- five words at a time, whatever they make
+module _ {A : Type 0} (mk : ℕ → ℕ → ℕ → ℕ → ℕ → A) where
+  length-fives : (ws : List ℕ) → length (fives mk ws) ≡ length ws / 5
+  unfolding fives
+  length-fives [] = refl
+  length-fives (a ∷ []) = refl
+  length-fives (a ∷ (b ∷ [])) = refl
+  length-fives (a ∷ (b ∷ (c ∷ []))) = refl
+  length-fives (a ∷ (b ∷ (c ∷ (d ∷ [])))) = refl
+  length-fives (a ∷ (b ∷ (c ∷ (d ∷ (e ∷ ws))))) = omega (arith, length-fives ws)
+
+  -- a whole one of room behind each place
+  room : (ws : List ℕ) (i : ℕ) → i < length (fives mk ws) → 5 * i + 4 < length ws
+  room ws i h = omega (arith, length-fives ws)
+
+  getD-fives : (ws : List ℕ) (i : ℕ) (z : A) → i < length (fives mk ws) → getD (fives mk ws) i z ≡ mk (getD ws (5 * i) 0) (getD ws (5 * i + 1) 0) (getD ws (5 * i + 2) 0) (getD ws (5 * i + 3) 0) (getD ws (5 * i + 4) 0)
+  unfolding fives
+  getD-fives [] i z h = absurd (omega arith)
+  getD-fives (a ∷ []) i z h = absurd (omega arith)
+  getD-fives (a ∷ (b ∷ [])) i z h = absurd (omega arith)
+  getD-fives (a ∷ (b ∷ (c ∷ []))) i z h = absurd (omega arith)
+  getD-fives (a ∷ (b ∷ (c ∷ (d ∷ [])))) i z h = absurd (omega arith)
+  getD-fives (a ∷ (b ∷ (c ∷ (d ∷ (e ∷ ws))))) zero z h = refl
+  getD-fives (a ∷ (b ∷ (c ∷ (d ∷ (e ∷ ws))))) (suc i) z h = getD-fives ws i z (omega arith) ∙ simp (five-suc, suc-add)
+
+  put-fives : (ws : List ℕ) (i v w x y z : ℕ) → i < length (fives mk ws) → fives mk (putFive ws (5 * i) v w x y z) ≡ set (fives mk ws) i (mk v w x y z)
+  unfolding fives
+  put-fives [] i v w x y z h = absurd (omega arith)
+  put-fives (a ∷ []) i v w x y z h = absurd (omega arith)
+  put-fives (a ∷ (b ∷ [])) i v w x y z h = absurd (omega arith)
+  put-fives (a ∷ (b ∷ (c ∷ []))) i v w x y z h = absurd (omega arith)
+  put-fives (a ∷ (b ∷ (c ∷ (d ∷ [])))) i v w x y z h = absurd (omega arith)
+  put-fives (a ∷ (b ∷ (c ∷ (d ∷ (e ∷ ws))))) zero v w x y z h = refl
+  put-fives (a ∷ (b ∷ (c ∷ (d ∷ (e ∷ ws))))) (suc i) v w x y z h = simp (five-suc, suc-add) (ap {B = List A} (λ l. mk a b c d e ∷ l) (put-fives ws i v w x y z (omega arith)))
+
+  -- the second word alone, and the second and the third
+  put-second : (ws : List ℕ) (i v : ℕ) → i < length (fives mk ws) → fives mk (set ws (5 * i + 1) v) ≡ set (fives mk ws) i (mk (getD ws (5 * i) 0) v (getD ws (5 * i + 2) 0) (getD ws (5 * i + 3) 0) (getD ws (5 * i + 4) 0))
+  unfolding fives
+  put-second [] i v h = absurd (omega arith)
+  put-second (a ∷ []) i v h = absurd (omega arith)
+  put-second (a ∷ (b ∷ [])) i v h = absurd (omega arith)
+  put-second (a ∷ (b ∷ (c ∷ []))) i v h = absurd (omega arith)
+  put-second (a ∷ (b ∷ (c ∷ (d ∷ [])))) i v h = absurd (omega arith)
+  put-second (a ∷ (b ∷ (c ∷ (d ∷ (e ∷ ws))))) zero v h = refl
+  put-second (a ∷ (b ∷ (c ∷ (d ∷ (e ∷ ws))))) (suc i) v h = simp (five-suc, suc-add) (ap {B = List A} (λ l. mk a b c d e ∷ l) (put-second ws i v (omega arith)))
+
+  put-two : (ws : List ℕ) (i v w : ℕ) → i < length (fives mk ws) → fives mk (set (set ws (5 * i + 1) v) (5 * i + 2) w) ≡ set (fives mk ws) i (mk (getD ws (5 * i) 0) v w (getD ws (5 * i + 3) 0) (getD ws (5 * i + 4) 0))
+  unfolding fives
+  put-two [] i v w h = absurd (omega arith)
+  put-two (a ∷ []) i v w h = absurd (omega arith)
+  put-two (a ∷ (b ∷ [])) i v w h = absurd (omega arith)
+  put-two (a ∷ (b ∷ (c ∷ []))) i v w h = absurd (omega arith)
+  put-two (a ∷ (b ∷ (c ∷ (d ∷ [])))) i v w h = absurd (omega arith)
+  put-two (a ∷ (b ∷ (c ∷ (d ∷ (e ∷ ws))))) zero v w h = refl
+  put-two (a ∷ (b ∷ (c ∷ (d ∷ (e ∷ ws))))) (suc i) v w h = simp (five-suc, suc-add) (ap {B = List A} (λ l. mk a b c d e ∷ l) (put-two ws i v w (omega arith)))
+
+-- ---- what the crates above know of the view, whatever the layout
+pub length-glyphs : (ws : List ℕ) → length (glyphs ws) ≡ capacityOf (length ws)
+unfolding glyphs capacityOf
+length-glyphs ws = length-fives glyphOf ws
+
+pub length-placements : (ws : List ℕ) → length (placements ws) ≡ capacityOf (length ws)
+unfolding placements capacityOf
+length-placements ws = length-fives positionOf ws
+
+pub glyphs-fit : (ws : List ℕ) → length (glyphs ws) ≤ length ws
+unfolding capacityOf
+glyphs-fit ws = omega (arith, length-glyphs ws)
+
+pub placements-fit : (ws : List ℕ) → length (placements ws) ≤ length ws
+unfolding capacityOf
+placements-fit ws = omega (arith, length-placements ws)
+
+pub glyphs-same : (a b : List ℕ) → length a ≡ length b → length (glyphs a) ≡ length (glyphs b)
+unfolding capacityOf
+glyphs-same a b h = omega (arith, length-glyphs a, length-glyphs b)
+
+pub placements-same : (a b : List ℕ) → length a ≡ length b → length (placements a) ≡ length (placements b)
+unfolding capacityOf
+placements-same a b h = omega (arith, length-placements a, length-placements b)
+
+-- as many positions as glyphs
+pub placements-glyphs : (ws : List ℕ) → length (placements ws) ≡ length (glyphs ws)
+placements-glyphs ws = length-placements ws ∙ sym (length-glyphs ws)
+
+pub length-clusters : {G : Type 0} (l : List (Glyph G)) → length (clusters l) ≡ length l
+unfolding clusters
+length-clusters l = length-map l _
+
+-- the cluster of a glyph
+pub cluster-of : (l : List (Glyph ℕ)) (i : ℕ) → getD (clusters l) i 4294967295 ≡ getD l i zeroGlyph .info .cluster
+unfolding clusters zeroGlyph glyphOf
+cluster-of l i = List·getD-map (λ g. g .info .cluster) l i zeroGlyph
+
+-- ---- the words that the functions read and write
+module _ (ws : List ℕ) (i : ℕ) (h : i < length (glyphs ws)) where
+  pub glyph-room : 5 * i + 4 < length ws
+  unfolding glyphs
+  glyph-room = room glyphOf ws i h
+
+  pub getD-glyphs : getD (glyphs ws) i zeroGlyph ≡ seen (wordsAt ws (5 * i))
+  unfolding glyphs seen
+  getD-glyphs = getD-fives glyphOf ws i zeroGlyph h
+
+  pub put-glyphs : (g : Words) → glyphs (putWords ws (5 * i) g) ≡ set (glyphs ws) i (seen g)
+  unfolding glyphs seen
+  put-glyphs g = put-fives glyphOf ws i (g .glyph) (g .mask) (g .cluster) (g .var0) (g .var1) h
+
+  pub cluster-word : getD ws (5 * i + 2) 0 ≡ getD (clusters (glyphs ws)) i 4294967295
+  unfolding seen glyphOf
+  cluster-word = sym (cluster-of (glyphs ws) i ∙ ap (λ (g : Glyph ℕ). g .info .cluster) getD-glyphs)
+
+  pub mask-word : getD ws (5 * i + 1) 0 ≡ getD (glyphs ws) i zeroGlyph .info .mask
+  unfolding seen glyphOf
+  mask-word = sym (ap (λ (g : Glyph ℕ). g .info .mask) getD-glyphs)
+
+  -- `set_cluster` where the cluster is there already, and where it is not
+  pub same-cluster : (c m : ℕ) → getD ws (5 * i + 2) 0 ≡ c → glyphs ws ≡ set (glyphs ws) i (change (setCluster c m) (getD (glyphs ws) i zeroGlyph))
+  unfolding change setCluster
+  same-cluster c m e =
+      let t : eqb (getD (glyphs ws) i zeroGlyph .info .cluster) c ≡ true = eq-eqb _ _ (sym (cluster-of (glyphs ws) i) ∙ (sym cluster-word ∙ e)) in
+      rw t (sym (set-getD (glyphs ws) i zeroGlyph))
+
+  pub new-cluster : (c m : ℕ) → (getD ws (5 * i + 2) 0 ≡ c → ⊥)
+      → glyphs (set (set ws (5 * i + 1) (getD ws (5 * i + 1) 0 / 8 * 8 + m % 8)) (5 * i + 2) c) ≡ set (glyphs ws) i (change (setCluster c m) (getD (glyphs ws) i zeroGlyph))
+  unfolding change setCluster withCluster withMask seen glyphs glyphOf
+  new-cluster c m n = rw (getD-glyphs, ne-eqb (getD ws (5 * i + 2) 0) c n) (put-two glyphOf ws i _ c h)
+
+  pub more-bits : (bits : ℕ) → glyphs (set ws (5 * i + 1) (bitOr bits (getD ws (5 * i + 1) 0))) ≡ set (glyphs ws) i (change (flagged bits) (getD (glyphs ws) i zeroGlyph))
+  unfolding change flagged withMask seen glyphs glyphOf
+  more-bits bits = rw getD-glyphs (put-second glyphOf ws i _ h)
+
+  pub new-mask : (m : ℕ) → glyphs (set ws (5 * i + 1) m) ≡ set (glyphs ws) i (change (withMask m) (getD (glyphs ws) i zeroGlyph))
+  unfolding change withMask seen glyphs glyphOf
+  new-mask m = rw getD-glyphs (put-second glyphOf ws i m h)
+
+  pub key-first : (slot m : ℕ) → slot ≡ 0 → bitAnd m (getD ws (5 * i + 3) 0) ≡ key slot m (getD (glyphs ws) i zeroGlyph .info)
+  unfolding key seen glyphOf
+  key-first slot m e = rw (getD-glyphs, eq-eqb slot 0 e)
+
+  pub key-second : (slot m : ℕ) → (slot ≡ 0 → ⊥) → bitAnd m (getD ws (5 * i + 4) 0) ≡ key slot m (getD (glyphs ws) i zeroGlyph .info)
+  unfolding key seen glyphOf
+  key-second slot m n = rw (getD-glyphs, ne-eqb slot 0 n)
+
+-- a change with a test of the cluster
+module _ (l : List (Glyph ℕ)) (i c bits : ℕ) where
+  pub unless-same : getD (clusters l) i 4294967295 ≡ c → l ≡ set l i (change (flaggedUnless c bits) (getD l i zeroGlyph))
+  unfolding change flaggedUnless
+  unless-same e = rw (eq-eqb (getD l i zeroGlyph .info .cluster) c (sym (cluster-of l i) ∙ e)) (sym (set-getD l i zeroGlyph))
+
+  pub unless-other : (getD (clusters l) i 4294967295 ≡ c → ⊥) → set l i (change (flagged bits) (getD l i zeroGlyph)) ≡ set l i (change (flaggedUnless c bits) (getD l i zeroGlyph))
+  unfolding change flaggedUnless
+  unless-other n = rw (ne-eqb (getD l i zeroGlyph .info .cluster) c (λ (q : getD l i zeroGlyph .info .cluster ≡ c). n (cluster-of l i ∙ q)))
+
+-- ---- positions
+module _ (ws : List ℕ) (i : ℕ) (h : i < length (placements ws)) where
+  pub place-room : 5 * i + 4 < length ws
+  unfolding placements
+  place-room = room positionOf ws i h
+
+  pub getD-placements : getD (placements ws) i zeroPosition ≡ placeAt ws (5 * i)
+  unfolding placements positionOf
+  getD-placements = getD-fives positionOf ws i zeroPosition h
+
+  pub put-placements : (p : Position) → placements (putPlace ws (5 * i) p) ≡ set (placements ws) i p
+  unfolding placements positionOf
+  put-placements p = put-fives positionOf ws i (p .«x_advance») (p .«y_advance») (p .«x_offset») (p .«y_offset») (p .var) h

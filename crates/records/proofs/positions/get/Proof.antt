@@ -1,0 +1,17 @@
+use mathlib.Core.Path.{sym, _∙_}
+use native.Mathlib.Omega.{arith}
+use Rattle.records.proofs.View.{place-room, getD-placements}
+use Rattle.records.proofs.positions.get.Statement.{statement}
+use Rattle.records.proofs.positions.get.Tie as tie
+
+mul-read : tie.Need-mul-read
+mul-read c = omega (arith, place-room _ _ (c .before .pre))
+
+read-requires : tie.Need-read-requires
+read-requires c κs = place-room _ _ (c .before .pre)
+
+returns : tie.Need-returns
+returns c = c .read .ensures ∙ sym (getD-placements _ _ (c .before .before .pre))
+
+pub get-spec : {M : Type 1} → statement M
+get-spec = tie.close (tie.spec mul-read read-requires returns)

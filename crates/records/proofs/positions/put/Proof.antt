@@ -1,0 +1,22 @@
+use mathlib.Core.Path.{ap, _∙_}
+use native.Mathlib.Omega.{arith}
+use Rattle.records.proofs.View.{place-room, put-placements}
+use Rattle.records.specs.View.{placements}
+use borrow.Author.Needs.{needs}
+use Rattle.records.proofs.positions.put.Statement.{statement}
+use Rattle.records.proofs.positions.put.Tie as tie
+
+mul-write : tie.Need-mul-write
+mul-write c = omega (arith, place-room _ _ (c .before .before .pre))
+
+write-requires : tie.Need-write-requires
+write-requires c κs = place-room _ _ (c .before .before .pre)
+
+same-length : tie.Need-same-length
+same-length c = search needs
+
+returns : tie.Need-returns
+returns c = ap placements (c .before .before .write .ensures) ∙ put-placements _ _ (c .before .before .before .before .before .pre) _
+
+pub put-spec : {M : Type 1} → statement M
+put-spec = tie.close (tie.spec mul-write write-requires same-length returns)
