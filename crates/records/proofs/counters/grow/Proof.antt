@@ -12,7 +12,7 @@ returns c = rw (max-eq-right (c .if1 .taken))
 
 returns-2 : tie.Need-returns-2
 unfolding grown
-returns-2 c = let h : c .before .args .l .allocated ≤ c .before .args .n = omega arith in rw (max-eq-left h)
+returns-2 c = let h : c .before .before .args .l .allocated ≤ c .before .before .args .n = omega arith in rw (max-eq-left h)
 
 pub grow-spec : {M : Type 1} → statement M
 grow-spec = tie.close (tie.spec returns returns-2)
