@@ -1,15 +1,15 @@
 -- Laws of the view: what is said of words, and what the crates above may use of it.
-use mathlib.Core.{Path._≡_, Path.refl, Path.sym, Path.ap, Path._∙_, Bool.Bool, Bool.true, Bool.false, Bool._&&_, Bool.and-eq-true-iff, List.List, List.[], List._∷_}
+use mathlib.Core.{Path._≡_, Path.refl, Path.sym, Path.ap, Path._∙_, Bool.Bool, Bool.true, Bool.false, Bool._&&_, Bool.and-eq-true-iff, List.List, List.[], List._∷_, List._++_, List.map}
 use Prim.Native.Nat.{ℕ, zero, suc, _+_, _*_, _/_, _%_, _≤_, _<_}
 use native.Mathlib.Nat.{suc-add}
 use native.Mathlib.Omega.{arith}
-use lib.{ListN.length, ListN.getD, ListN.set, ListN.drop, ListN.length-map, ListN.length-drop, ListN.List·getD-map, Seq.set-getD, Seq.drop-nil, Dec.eqb, Dec.leb, Bits.bitAnd, Bits.bitOr}
+use lib.{ListN.length, ListN.getD, ListN.set, ListN.drop, ListN.take, ListN.replicate, ListN.length-map, ListN.length-drop, ListN.List·getD-map, Seq.set-getD, Seq.drop-nil, Seq.take-nil, Dec.eqb, Dec.leb, Bits.bitAnd, Bits.bitOr}
 use borrow.Author.Tests.{eq-eqb, ne-eqb, eqb-true, leb-true}
 use Rattle.records.specs.declared.{Position.Position, Glyph.Glyph as Words}
 use Rattle.records.specs.Counters.{capacityOf, rightlyLent}
-use Rattle.records.specs.Glyphs.{Glyph, Info, change, setCluster, withMask, withCluster, flagged, flaggedUnless, key, zeroPosition}
+use Rattle.records.specs.Glyphs.{Glyph, Info, change, setCluster, withMask, withCluster, withPosition, flagged, flaggedUnless, key, zeroPosition}
 use Rattle.records.specs.Ranges.{clusters}
-use Rattle.records.specs.View.{fives, glyphOf, glyphs, positionOf, placements, wordsFrom, seen, zeroGlyph, wordsAt, placeAt, putFive, putWords, putPlace}
+use Rattle.records.specs.View.{fives, glyphOf, glyphs, positionOf, placements, paired, wordsFrom, Whole, seen, zeroGlyph, wordsAt, placeAt, putFive, putWords, putPlace}
 
 five-suc : (i : ℕ) → 5 * suc i ≡ suc (suc (suc (suc (suc (5 * i)))))
 five-suc i = omega arith
@@ -70,7 +70,122 @@ module _ {A : Type 0} (mk : ℕ → ℕ → ℕ → ℕ → ℕ → A) where
   put-two (a ∷ (b ∷ (c ∷ (d ∷ (e ∷ ws))))) zero v w h = refl
   put-two (a ∷ (b ∷ (c ∷ (d ∷ (e ∷ ws))))) (suc i) v w h = simp (five-suc, suc-add) (ap {B = List A} (λ l. mk a b c d e ∷ l) (put-two ws i v w (omega arith)))
 
+  take-fives : (n : ℕ) (ws : List ℕ) → fives mk (take (5 * n) ws) ≡ take n (fives mk ws)
+  unfolding fives
+  take-fives zero ws = refl
+  take-fives (suc n) [] = simp five-suc
+  take-fives (suc n) (a ∷ []) = simp (five-suc, take-nil)
+  take-fives (suc n) (a ∷ (b ∷ [])) = simp (five-suc, take-nil)
+  take-fives (suc n) (a ∷ (b ∷ (c ∷ []))) = simp (five-suc, take-nil)
+  take-fives (suc n) (a ∷ (b ∷ (c ∷ (d ∷ [])))) = simp (five-suc, take-nil)
+  take-fives (suc n) (a ∷ (b ∷ (c ∷ (d ∷ (e ∷ ws))))) = simp five-suc (ap {B = List A} (λ l. mk a b c d e ∷ l) (take-fives n ws))
+
+  drop-fives : (n : ℕ) (ws : List ℕ) → fives mk (drop (5 * n) ws) ≡ drop n (fives mk ws)
+  unfolding fives
+  drop-fives zero ws = refl
+  drop-fives (suc n) [] = simp five-suc
+  drop-fives (suc n) (a ∷ []) = simp (five-suc, drop-nil)
+  drop-fives (suc n) (a ∷ (b ∷ [])) = simp (five-suc, drop-nil)
+  drop-fives (suc n) (a ∷ (b ∷ (c ∷ []))) = simp (five-suc, drop-nil)
+  drop-fives (suc n) (a ∷ (b ∷ (c ∷ (d ∷ [])))) = simp (five-suc, drop-nil)
+  drop-fives (suc n) (a ∷ (b ∷ (c ∷ (d ∷ (e ∷ ws))))) = simp five-suc (drop-fives n ws)
+
+  -- where the five words can be had back, whole ones decide the words
+  module _ (un : A → List ℕ) (back : (a b c d e : ℕ) → un (mk a b c d e) ≡ a ∷ (b ∷ (c ∷ (d ∷ (e ∷ []))))) where
+    flat : List A → List ℕ
+    flat [] = []
+    flat (x ∷ l) = un x ++ flat l
+
+    flat-fives : (ws : List ℕ) → length ws % 5 ≡ 0 → flat (fives mk ws) ≡ ws
+    unfolding fives flat
+    flat-fives [] h = refl
+    flat-fives (a ∷ []) h = absurd (omega arith)
+    flat-fives (a ∷ (b ∷ [])) h = absurd (omega arith)
+    flat-fives (a ∷ (b ∷ (c ∷ []))) h = absurd (omega arith)
+    flat-fives (a ∷ (b ∷ (c ∷ (d ∷ [])))) h = absurd (omega arith)
+    flat-fives (a ∷ (b ∷ (c ∷ (d ∷ (e ∷ ws))))) h = rw (back a b c d e) (ap {B = List ℕ} (λ l. a ∷ (b ∷ (c ∷ (d ∷ (e ∷ l))))) (flat-fives ws (omega arith)))
+
+    beyond-fives : (n : ℕ) (v w : List ℕ) → length v % 5 ≡ 0 → length v ≡ length w → drop n (fives mk v) ≡ drop n (fives mk w) → drop (5 * n) v ≡ drop (5 * n) w
+    beyond-fives n v w h l e =
+        let hv : length (drop (5 * n) v) % 5 ≡ 0 = simp length-drop (omega arith) in
+        let hw : length (drop (5 * n) w) % 5 ≡ 0 = simp length-drop (omega arith) in
+        sym (flat-fives (drop (5 * n) v) hv) ∙ (ap flat (drop-fives n v ∙ (e ∙ sym (drop-fives n w))) ∙ flat-fives (drop (5 * n) w) hw)
+
 -- ---- what the crates above know of the view, whatever the layout
+-- the words from the n-th glyph on go by the glyphs, and by the positions
+pub beyond-glyphs : (n : ℕ) (v w : List ℕ) → Whole v → length v ≡ length w → drop n (glyphs v) ≡ drop n (glyphs w) → wordsFrom n v ≡ wordsFrom n w
+unfolding Whole wordsFrom glyphs glyphOf
+beyond-glyphs n v w h l e =
+    beyond-fives glyphOf (λ g. g .glyph ∷ (g .info .mask ∷ (g .info .cluster ∷ (g .info .var0 ∷ (g .info .var1 ∷ []))))) (λ a b c d e. refl) n v w h l e
+
+pub beyond-placements : (n : ℕ) (v w : List ℕ) → Whole v → length v ≡ length w → drop n (placements v) ≡ drop n (placements w) → wordsFrom n v ≡ wordsFrom n w
+unfolding Whole wordsFrom placements positionOf
+beyond-placements n v w h l e =
+    beyond-fives positionOf (λ p. p .«x_advance» ∷ (p .«y_advance» ∷ (p .«x_offset» ∷ (p .«y_offset» ∷ (p .var ∷ []))))) (λ a b c d e. refl) n v w h l e
+
+pub whole-same : (v w : List ℕ) → length v ≡ length w → Whole v → Whole w
+unfolding Whole
+whole-same v w e h = rw (← e) h
+
+-- what the test of refusal 1 says
+lent-parts : (x y z : Bool) → x && (y && z) ≡ true → (x ≡ true) × (y ≡ true) × (z ≡ true)
+lent-parts x y z h =
+    let p = and-eq-true-iff x (y && z) .0 h in
+    let q = and-eq-true-iff y z .0 (p .1) in
+    (p .0, q .0, q .1)
+
+module _ (f s : List ℕ) (h : rightlyLent (length f) (length s) ≡ true) where
+  parts : (eqb (length f) (length s) ≡ true) × (eqb (length f % 5) 0 ≡ true) × (leb (capacityOf (length f)) 1048576 ≡ true)
+  unfolding rightlyLent
+  parts = lent-parts (eqb (length f) (length s)) (eqb (length f % 5) 0) (leb (capacityOf (length f)) 1048576) h
+
+  pub lent-same : length f ≡ length s
+  lent-same = eqb-true _ _ (parts .0)
+
+  pub lent-whole : Whole f
+  unfolding Whole
+  lent-whole = eqb-true _ _ (parts .1)
+
+  pub lent-most : capacityOf (length f) ≤ 1048576
+  lent-most = leb-true _ _ (parts .2)
+
+pub take-glyphs : (n : ℕ) (ws : List ℕ) → glyphs (take (5 * n) ws) ≡ take n (glyphs ws)
+unfolding glyphs
+take-glyphs n ws = take-fives glyphOf n ws
+
+pub take-room : (n : ℕ) (ws : List ℕ) → n ≤ length (glyphs ws) → 5 * n ≤ length ws
+unfolding glyphs
+take-room n ws h = omega (arith, length-fives glyphOf ws)
+
+-- glyphs in a slice have no position; with positions, they have again none once these are taken away
+pub glyphs-plain : (ws : List ℕ) → map (change (withPosition zeroPosition)) (glyphs ws) ≡ glyphs ws
+unfolding glyphs fives glyphOf change withPosition
+glyphs-plain [] = refl
+glyphs-plain (a ∷ []) = refl
+glyphs-plain (a ∷ (b ∷ [])) = refl
+glyphs-plain (a ∷ (b ∷ (c ∷ []))) = refl
+glyphs-plain (a ∷ (b ∷ (c ∷ (d ∷ [])))) = refl
+glyphs-plain (a ∷ (b ∷ (c ∷ (d ∷ (e ∷ ws))))) = ap {B = List (Glyph ℕ)} (λ l. glyphOf a b c d e ∷ l) (glyphs-plain ws)
+
+pub paired-plain : (l : List (Glyph ℕ)) (ps : List Position) → map (change (withPosition zeroPosition)) (paired l ps) ≡ map (change (withPosition zeroPosition)) l
+unfolding paired change withPosition
+paired-plain [] ps = refl
+paired-plain (g ∷ l) [] = ap {B = List (Glyph ℕ)} (λ r. change (withPosition zeroPosition) g ∷ r) (paired-plain l [])
+paired-plain (g ∷ l) (p ∷ ps) = ap {B = List (Glyph ℕ)} (λ r. change (withPosition zeroPosition) g ∷ r) (paired-plain l ps)
+
+pub length-paired : (l : List (Glyph ℕ)) (ps : List Position) → length (paired l ps) ≡ length l
+unfolding paired
+length-paired [] ps = refl
+length-paired (g ∷ l) [] = ap suc (length-paired l [])
+length-paired (g ∷ l) (p ∷ ps) = ap suc (length-paired l ps)
+
+-- the first n glyphs get the position zero
+pub paired-zero : (n : ℕ) (l : List (Glyph ℕ)) (ps : List Position) → take n (paired l (replicate n zeroPosition ++ ps)) ≡ take n (map (change (withPosition zeroPosition)) l)
+unfolding paired
+paired-zero zero l ps = refl
+paired-zero (suc n) [] ps = refl
+paired-zero (suc n) (g ∷ l) ps = ap {B = List (Glyph ℕ)} (λ r. change (withPosition zeroPosition) g ∷ r) (paired-zero n l ps)
+
 pub length-glyphs : (ws : List ℕ) → length (glyphs ws) ≡ capacityOf (length ws)
 unfolding glyphs capacityOf
 length-glyphs ws = length-fives glyphOf ws

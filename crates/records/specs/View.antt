@@ -1,7 +1,7 @@
 -- How words are seen: a slice as a list of glyphs, and as a list of positions, five words each. Words after the last whole one belong to none.
-use mathlib.Core.{List.List, List.[], List._∷_}
-use Prim.Native.Nat.{ℕ, _+_, _*_}
-use lib.{ListN.drop, ListN.getD, ListN.set}
+use mathlib.Core.{Path._≡_, List.List, List.[], List._∷_}
+use Prim.Native.Nat.{ℕ, _+_, _*_, _%_}
+use lib.{ListN.length, ListN.drop, ListN.getD, ListN.set}
 use Rattle.records.specs.declared.{Position.Position, Glyph.Glyph as Words}
 use Rattle.records.specs.Glyphs.{Glyph, withPosition, change, zeroPosition}
 
@@ -37,6 +37,10 @@ paired (g ∷ l) (p ∷ ps) = change (withPosition p) g ∷ paired l ps
 -- the words from the n-th glyph on
 unfoldable pub wordsFrom : ℕ → List ℕ → List ℕ
 wordsFrom n ws = drop (5 * n) ws
+
+-- a slice of whole glyphs
+unfoldable pub Whole : List ℕ → Type 0
+Whole ws = length ws % 5 ≡ 0
 
 -- ---- the struct of five words, and where it lies
 unfoldable pub seen : Words → Glyph ℕ

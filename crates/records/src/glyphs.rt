@@ -1,8 +1,8 @@
 // Glyphs in a slice of words, five words a glyph: glyph number, mask, cluster, var0, var1.
 ghost use mathlib.Core.Path.{_≡_};
 ghost use mathlib.Core.Bool.{true};
-ghost use Prim.Native.Nat.{_+_, _<_};
-ghost use lib.ListN.{length, getD, set};
+ghost use Prim.Native.Nat.{_+_, _<_, _≤_};
+ghost use lib.ListN.{length, getD, set, take};
 ghost use Rattle.records.specs.Counters.{capacityOf, rightlyLent};
 ghost use Rattle.records.specs.Glyphs.{change, setCluster, withMask, flagged, flaggedUnless, key};
 ghost use Rattle.records.specs.Ranges.{clusters};
@@ -131,4 +131,13 @@ pub fn or_mask_unless(ws: &mut [u32], i: usize, cluster: u32, bits: u32)
     if cluster_at(ws, i) != cluster {
         or_mask(ws, i, bits);
     }
+}
+
+// The first n glyphs of a slice.
+pub fn first_of(ws: &[u32], n: usize) -> &[u32]
+    requires { ⌜ n ≤ length (glyphs (now ws)) ⌝ }
+    ensures { λ r. ⌜ glyphs (now r) ≡ take n (glyphs (now (ws .entry))) ⌝ }
+{
+    let end = 5 * n;
+    &ws[..end]
 }
