@@ -1,3 +1,11 @@
+pub mod Accounts
+pub mod Calls
+pub mod Copying
+pub mod Editing
 pub mod Examples
 pub mod Executable
+pub mod Inner
+pub mod Moving
 pub mod Renaming
+pub mod Runs
+pub mod Simple

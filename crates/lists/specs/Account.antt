@@ -32,15 +32,24 @@ withLimits l s = record { phase = s .phase; gone = s .gone; limits = l; level = 
 unfoldable pub renamed : {G H : Type 0} → (G → H) → Account G → Account H
 renamed f a = record { done = map (rename f) (a .done); passed = map (rename f) (a .passed); rest = map (rename f) (a .rest); state = a .state }
 
+abbrev pub outputPhase : Phase → Bool
+outputPhase p = elim p [ Plain ↦ false | Output ↦ true | Positions ↦ false | Spoiled ↦ false ]
+
+abbrev pub positionsPhase : Phase → Bool
+positionsPhase p = elim p [ Plain ↦ false | Output ↦ false | Positions ↦ true | Spoiled ↦ false ]
+
+abbrev pub spoiledPhase : Phase → Bool
+spoiledPhase p = elim p [ Plain ↦ false | Output ↦ false | Positions ↦ false | Spoiled ↦ true ]
+
 module _ {G : Type 0} where
   unfoldable pub hasOutput : Account G → Bool
-  hasOutput a = elim (a .state .phase) [ Plain ↦ false | Output ↦ true | Positions ↦ false | Spoiled ↦ false ]
+  hasOutput a = outputPhase (a .state .phase)
 
   unfoldable pub hasPositions : Account G → Bool
-  hasPositions a = elim (a .state .phase) [ Plain ↦ false | Output ↦ false | Positions ↦ true | Spoiled ↦ false ]
+  hasPositions a = positionsPhase (a .state .phase)
 
   unfoldable pub isSpoiled : Account G → Bool
-  isSpoiled a = elim (a .state .phase) [ Plain ↦ false | Output ↦ false | Positions ↦ false | Spoiled ↦ true ]
+  isSpoiled a = spoiledPhase (a .state .phase)
 
   -- the input that a list shows. A place in the input is counted from `gone` on
   unfoldable pub input : Account G → List (Glyph G)

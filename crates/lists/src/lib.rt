@@ -1,1 +1,40 @@
-// Lists of the shaping buffer. The account of a buffer and of its cursor stands in specs/.
+// Lists of the shaping buffer: its state, the moves between the two lent slices, and the cursor's calls.
+use records::Answer;
+use records::DonePlace;
+use records::InputPlace;
+use records::Limits;
+use records::Phase;
+
+pub mod copies;
+pub mod cursor;
+pub mod moves;
+pub mod ranges;
+pub mod state;
+
+// The state of a buffer, beside the two slices that are lent to every call. specs/State.antt says which account it is.
+pub struct Buffer {
+    pub idx: InputPlace,
+    pub len: InputPlace,
+    pub out_len: DonePlace,
+    pub phase: Phase,
+    pub limits: Limits,
+    pub level: u32,
+    pub wants: u32,
+    // The second lent slice holds the run.
+    pub swapped: bool,
+    // The output lies in the slice that does not hold the run.
+    pub have_separate_output: bool,
+}
+
+// What a call gives back.
+pub struct Reply {
+    pub buffer: Buffer,
+    pub answer: Answer,
+}
+
+// Whether a needed size is there.
+pub enum Room {
+    Fits,
+    GivesUp,
+    Over,
+}

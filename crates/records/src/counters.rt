@@ -40,9 +40,9 @@ pub fn pay(l: Limits, n: usize) -> Limits
 pub fn fail(l: Limits) -> Limits
     ensures { λ r. ⌜ r ≡ failed l ⌝ }
 {
-    let mut r = l;
-    r.successful = false;
-    r
+    let mut given_up = l;
+    given_up.successful = false;
+    given_up
 }
 
 pub fn grow(l: Limits, n: usize) -> Limits

@@ -1,0 +1,292 @@
+-- What the account of a buffer says, as far as tests and limits go.
+use mathlib.Core.{Path._≡_, Path.refl, Path.sym, Path.ap, Path._∙_, Path.subst, Bool.Bool, Bool.true, Bool.false, Bool.cond, Bool.not, Bool._&&_, Bool._||_, Bool.and-eq-true-iff, Bool.false≢true, List.List, List.[]}
+use Prim.Native.Nat.{ℕ, _+_, _-_, _≤_, _<_}
+use native.Mathlib.Decide.{decLe}
+use native.Mathlib.Omega.{arith}
+use borrow.Author.Tests.{le-leb, lt-leb, le-ltb, lt-ltb, leb-true, eqb-true, eq-eqb}
+use lib.{Dec.eqb, Dec.leb, Dec.ltb, ListN.length, ListN.take, ListN.length-take, Seq.slice, Seq.length-slice, Seq.length-take-le}
+use Rattle.records.specs.{Phase, Plain, Output, Positions, Spoiled, OverCapacity, Limits, Counters.capacityOf, Counters.rightlyLent, Glyphs.Glyph, View.glyphs, View.placements, View.paired, View.Whole}
+use Rattle.records.proofs.View.{length-glyphs, glyphs-same, length-paired, lent-same, lent-whole, lent-most, whole-same}
+use Rattle.lists.specs.declared.{Buffer.Buffer, Room.Room, Room.the-variants.Fits, Room.the-variants.GivesUp, Room.the-variants.Over}
+use Rattle.lists.specs.Account.{Account, outputPhase, positionsPhase, spoiledPhase, hasOutput, hasPositions, isSpoiled, len, idx, outLen, limiting, withLimits}
+use Rattle.lists.specs.State.{shown, goneOf, stateOf, accountOf, account, inOrder, sound, Held, roomFor}
+use Rattle.lists.specs.Results.{Result, refused, needing}
+use Rattle.lists.specs.States.{withLimitsOf}
+
+-- ---- the three answers of a size are three
+RoomCode : Room → Type 0
+RoomCode r = elim r [ Fits ↦ Unit {0} | GivesUp ↦ ⊥ | Over ↦ ⊥ ]
+
+UpCode : Room → Type 0
+UpCode r = elim r [ Fits ↦ ⊥ | GivesUp ↦ Unit {0} | Over ↦ ⊥ ]
+
+gives-fits : GivesUp ≡ Fits → ⊥
+unfolding RoomCode
+gives-fits e = subst RoomCode (sym e) tt
+
+over-fits : Over ≡ Fits → ⊥
+unfolding RoomCode
+over-fits e = subst RoomCode (sym e) tt
+
+over-gives : Over ≡ GivesUp → ⊥
+unfolding UpCode
+over-gives e = subst UpCode (sym e) tt
+
+-- ---- phases
+pub output-is : (p : Phase) → outputPhase p ≡ true → p ≡ Output
+output-is Plain h = absurd (false≢true h)
+output-is Output h = refl
+output-is Positions h = absurd (false≢true h)
+output-is Spoiled h = absurd (false≢true h)
+
+pub output-clean : (p : Phase) → outputPhase p ≡ true → spoiledPhase p ≡ false
+output-clean Plain h = refl
+output-clean Output h = refl
+output-clean Positions h = refl
+output-clean Spoiled h = absurd (false≢true h)
+
+module _ (b : Buffer) (run other : List ℕ) where
+  pub output-of : hasOutput (accountOf b run other) ≡ outputPhase (b .phase)
+  unfolding hasOutput accountOf stateOf
+  output-of = refl
+
+  pub spoiled-of : isSpoiled (accountOf b run other) ≡ spoiledPhase (b .phase)
+  unfolding isSpoiled accountOf stateOf
+  spoiled-of = refl
+
+  pub limits-of : (accountOf b run other) .state .limits ≡ b .limits
+  unfolding accountOf stateOf
+  limits-of = refl
+
+  gone-of : (accountOf b run other) .state .gone ≡ goneOf b
+  unfolding accountOf stateOf
+  gone-of = refl
+
+  -- other limits, and nothing else
+  pub limited-of : (h : Limits → Limits) → accountOf (withLimitsOf (h (b .limits)) b) run other ≡ limiting h (accountOf b run other)
+  unfolding accountOf stateOf goneOf withLimitsOf limiting withLimits
+  limited-of h = refl
+
+  module _ (v : Held b run other) where
+    pub out-of : outLen (accountOf b run other) ≡ b .«out_len» .0
+    unfolding outLen accountOf
+    out-of = out-length (b .«have_separate_output»)
+      where
+        out-length : (s : Bool) → length (take (b .«out_len» .0) (cond s (glyphs other) (glyphs run))) ≡ b .«out_len» .0
+        out-length true = let e : length (glyphs run) ≡ length (glyphs other) = glyphs-same run other (v .same) in length-take-le (b .«out_len» .0) (glyphs other) (omega arith)
+        out-length false = length-take-le (b .«out_len» .0) (glyphs run) (omega arith)
+
+    -- a buffer that is not spoiled shows the whole of its run
+    shown-length : spoiledPhase (b .phase) ≡ false → length (shown (b .phase) run other) ≡ length (glyphs run)
+    unfolding shown
+    shown-length h = by-phase (b .phase) h
+      where
+        by-phase : (p : Phase) → spoiledPhase p ≡ false → length (shown p run other) ≡ length (glyphs run)
+        by-phase Plain k = refl
+        by-phase Output k = refl
+        by-phase Positions k = length-paired (glyphs run) (placements other)
+        by-phase Spoiled k = absurd (false≢true (sym k))
+
+    module _ (h : spoiledPhase (b .phase) ≡ false) where
+      pub rest-of : length ((accountOf b run other) .rest) ≡ b .len .0 - b .idx .0
+      unfolding accountOf
+      rest-of = let e : length (shown (b .phase) run other) ≡ length (glyphs run) = shown-length h in length-slice (b .idx .0) (b .len .0) (shown (b .phase) run other) (omega arith)
+
+      gone-in : goneOf b ≤ b .idx .0
+      unfolding goneOf
+      gone-in = by-phase (b .phase) h
+        where
+          by-phase : (p : Phase) → spoiledPhase p ≡ false → (elim p as (λ x. ℕ) [ Plain ↦ 0 | Output ↦ b .idx .0 | Positions ↦ 0 | Spoiled ↦ b .len .0 ]) ≤ b .idx .0
+          by-phase Plain k = omega arith
+          by-phase Output k = omega arith
+          by-phase Positions k = omega arith
+          by-phase Spoiled k = absurd (false≢true (sym k))
+
+      passed-length : length ((accountOf b run other) .passed) ≡ b .idx .0 - goneOf b
+      unfolding accountOf
+      passed-length = let e : length (shown (b .phase) run other) ≡ length (glyphs run) = shown-length h in length-slice (goneOf b) (b .idx .0) (shown (b .phase) run other) (omega arith)
+
+      pub idx-of : idx (accountOf b run other) ≡ b .idx .0
+      unfolding idx
+      idx-of = rw (spoiled-of ∙ h) (omega (arith, gone-of, passed-length, gone-in))
+
+      pub len-of : len (accountOf b run other) ≡ b .len .0
+      unfolding len
+      len-of = omega (arith, gone-of, passed-length, gone-in, rest-of)
+
+-- ---- refusal 1, as the code tests it
+module _ (b : Buffer) (capacity : ℕ) where
+  pub order-idx : b .len .0 < b .idx .0 → false ≡ inOrder b capacity
+  unfolding inOrder
+  order-idx h = rw (lt-leb _ _ h)
+
+  module _ (i : b .idx .0 ≤ b .len .0) where
+    pub order-len : b .limits .allocated < b .len .0 → false ≡ inOrder b capacity
+    unfolding inOrder
+    order-len h = rw (le-leb _ _ i, lt-leb _ _ h)
+
+    module _ (l : b .len .0 ≤ b .limits .allocated) where
+      pub order-out : b .limits .allocated < b .«out_len» .0 → false ≡ inOrder b capacity
+      unfolding inOrder
+      order-out h = rw (le-leb _ _ i, le-leb _ _ l, lt-leb _ _ h)
+
+      module _ (o : b .«out_len» .0 ≤ b .limits .allocated) where
+        pub order-all : capacity < b .limits .allocated → false ≡ inOrder b capacity
+        unfolding inOrder
+        order-all h = rw (le-leb _ _ i, le-leb _ _ l, le-leb _ _ o, lt-leb _ _ h)
+
+        module _ (a : b .limits .allocated ≤ capacity) where
+          pub order-apart : outputPhase (b .phase) ≡ true → b .«have_separate_output» ≡ true → true ≡ inOrder b capacity
+          unfolding inOrder
+          order-apart p q = rw (le-leb _ _ i, le-leb _ _ l, le-leb _ _ o, le-leb _ _ a, p, q)
+
+          pub order-within : outputPhase (b .phase) ≡ true → b .«have_separate_output» ≡ false → leb (b .«out_len» .0) (b .idx .0) ≡ inOrder b capacity
+          unfolding inOrder
+          order-within p q = rw (le-leb _ _ i, le-leb _ _ l, le-leb _ _ o, le-leb _ _ a, p, q)
+
+          pub order-without : outputPhase (b .phase) ≡ false → eqb (b .«out_len» .0) 0 ≡ inOrder b capacity
+          unfolding inOrder
+          order-without p = rw (le-leb _ _ i, le-leb _ _ l, le-leb _ _ o, le-leb _ _ a, p)
+
+module _ (b : Buffer) (f s : List ℕ) where
+  pub sound-is : rightlyLent (length f) (length s) ≡ true → sound b f s ≡ inOrder b (capacityOf (length f))
+  unfolding sound
+  sound-is h = rw h
+
+  pub sound-no : rightlyLent (length f) (length s) ≡ false → sound b f s ≡ false
+  unfolding sound
+  sound-no h = rw h
+
+-- ---- refusal 1, as facts
+parts : (a b c d e f : Bool) → a && (b && (c && (d && (e && f)))) ≡ true → (a ≡ true) × (b ≡ true) × (c ≡ true) × (d ≡ true) × (e ≡ true) × (f ≡ true)
+parts a b c d e f h =
+    let p = and-eq-true-iff a (b && (c && (d && (e && f)))) .0 h in
+    let q = and-eq-true-iff b (c && (d && (e && f))) .0 (p .1) in
+    let r = and-eq-true-iff c (d && (e && f)) .0 (q .1) in
+    let s = and-eq-true-iff d (e && f) .0 (r .1) in
+    let t = and-eq-true-iff e f .0 (s .1) in
+    (p .0, q .0, r .0, s .0, t .0, t .1)
+
+all-true : (a b c d e f : Bool) → a ≡ true → b ≡ true → c ≡ true → d ≡ true → e ≡ true → f ≡ true → a && (b && (c && (d && (e && f)))) ≡ true
+all-true a b c d e f p q r s t u = rw (p, q, r, s, t, u)
+
+apart-test : Buffer → Bool
+apart-test b = cond (outputPhase (b .phase)) (b .«have_separate_output» || leb (b .«out_len» .0) (b .idx .0)) (eqb (b .«out_len» .0) 0)
+
+module _ (b : Buffer) (f s : List ℕ) where
+  sound-parts : sound b f s ≡ true → (rightlyLent (length f) (length s) ≡ true) × (leb (b .idx .0) (b .len .0) ≡ true) × (leb (b .len .0) (b .limits .allocated) ≡ true) × (leb (b .«out_len» .0) (b .limits .allocated) ≡ true) × (leb (b .limits .allocated) (capacityOf (length f)) ≡ true) × (apart-test b ≡ true)
+  unfolding sound inOrder apart-test
+  sound-parts h = parts _ _ _ _ _ _ h
+
+  pub sound-lent : sound b f s ≡ true → rightlyLent (length f) (length s) ≡ true
+  sound-lent h = sound-parts h .0
+
+  pub sound-held : sound b f s ≡ true → Held b f s
+  unfolding apart-test
+  sound-held h =
+      let p = sound-parts h in
+      let all : b .limits .allocated ≤ capacityOf (length f) = leb-true _ _ (p .4) in
+      let most : capacityOf (length f) ≤ 1048576 = lent-most f s (p .0) in
+      record {
+        idx-in = leb-true _ _ (p .1);
+        len-in = leb-true _ _ (p .2);
+        out-in = leb-true _ _ (p .3);
+        all-in = rw (length-glyphs f) all;
+        most = rw (length-glyphs f) most;
+        same = lent-same f s (p .0);
+        whole = lent-whole f s (p .0);
+        behind = λ o k. leb-true _ _ (simp (o, k) at (p .5));
+        none = λ o. eqb-true _ _ (simp o at (p .5));
+      }
+
+  -- a buffer is sound by its counters and the lengths of slices that were rightly lent
+  pub held-sound : rightlyLent (length f) (length s) ≡ true → Held b f s → sound b f s ≡ true
+  unfolding sound inOrder
+  held-sound h v =
+      let all : b .limits .allocated ≤ capacityOf (length f) = rw (length-glyphs f) at (v .all-in) in
+      all-true _ _ _ _ _ _ h (le-leb _ _ (v .idx-in)) (le-leb _ _ (v .len-in)) (le-leb _ _ (v .out-in)) (le-leb _ _ all) (tested (outputPhase (b .phase)) (b .«have_separate_output») (v .behind) (v .none))
+    where
+      tested : (o k : Bool) → (o ≡ true → k ≡ false → b .«out_len» .0 ≤ b .idx .0) → (o ≡ false → b .«out_len» .0 ≡ 0) → cond o (k || leb (b .«out_len» .0) (b .idx .0)) (eqb (b .«out_len» .0) 0) ≡ true
+      tested true true p q = refl
+      tested true false p q = le-leb _ _ (p refl refl)
+      tested false k p q = eq-eqb _ _ (q refl)
+
+pub held-turned : (b : Buffer) (run other : List ℕ) → Held b run other → Held b other run
+held-turned b run other v =
+    let e : length (glyphs run) ≡ length (glyphs other) = glyphs-same run other (v .same) in
+    record {
+      idx-in = v .idx-in;
+      len-in = v .len-in;
+      out-in = v .out-in;
+      all-in = omega arith;
+      most = omega arith;
+      same = sym (v .same);
+      whole = whole-same run other (v .same) (v .whole);
+      behind = v .behind;
+      none = v .none;
+    }
+
+-- lengths are all that it goes by
+pub held-lengths : (b : Buffer) (run other run′ other′ : List ℕ) → length run′ ≡ length run → length other′ ≡ length other → Held b run other → Held b run′ other′
+held-lengths b run other run′ other′ er eo v =
+    let e : length (glyphs run′) ≡ length (glyphs run) = glyphs-same run′ run er in
+    record {
+      idx-in = v .idx-in;
+      len-in = v .len-in;
+      out-in = v .out-in;
+      all-in = omega arith;
+      most = omega arith;
+      same = er ∙ (v .same ∙ sym eo);
+      whole = whole-same run run′ (sym er) (v .whole);
+      behind = v .behind;
+      none = v .none;
+    }
+
+-- ---- "needs size"
+module _ (capacity n : ℕ) (a : Account ℕ) (x y : Result ℕ) where
+  pub needing-fits : roomFor capacity n (a .state .limits) ≡ Fits → needing capacity n a x y ≡ x
+  unfolding roomFor needing
+  needing-fits h = by-tests (leb n (a .state .limits .allocated)) (ltb (a .state .limits .«max_len») n) (ltb capacity n) h
+    where
+      by-tests : (p q r : Bool) → cond p Fits (cond q GivesUp (cond r Over Fits)) ≡ Fits → cond p x (cond q y (cond r (refused OverCapacity) x)) ≡ x
+      by-tests true q r e = refl
+      by-tests false true r e = absurd (gives-fits e)
+      by-tests false false true e = absurd (over-fits e)
+      by-tests false false false e = refl
+
+  pub needing-gives-up : roomFor capacity n (a .state .limits) ≡ GivesUp → needing capacity n a x y ≡ y
+  unfolding roomFor needing
+  needing-gives-up h = by-tests (leb n (a .state .limits .allocated)) (ltb (a .state .limits .«max_len») n) (ltb capacity n) h
+    where
+      by-tests : (p q r : Bool) → cond p Fits (cond q GivesUp (cond r Over Fits)) ≡ GivesUp → cond p x (cond q y (cond r (refused OverCapacity) x)) ≡ y
+      by-tests true q r e = absurd (gives-fits (sym e))
+      by-tests false true r e = refl
+      by-tests false false true e = absurd (over-gives e)
+      by-tests false false false e = absurd (gives-fits (sym e))
+
+  pub needing-over : roomFor capacity n (a .state .limits) ≡ Over → needing capacity n a x y ≡ refused OverCapacity
+  unfolding roomFor needing
+  needing-over h = by-tests (leb n (a .state .limits .allocated)) (ltb (a .state .limits .«max_len») n) (ltb capacity n) h
+    where
+      by-tests : (p q r : Bool) → cond p Fits (cond q GivesUp (cond r Over Fits)) ≡ Over → cond p x (cond q y (cond r (refused OverCapacity) x)) ≡ refused OverCapacity
+      by-tests true q r e = absurd (over-fits (sym e))
+      by-tests false true r e = absurd (over-gives (sym e))
+      by-tests false false true e = refl
+      by-tests false false false e = absurd (over-fits (sym e))
+
+-- a size that is there lies within the capacity
+neither : (t : Bool) → cond t GivesUp Over ≡ Fits → ⊥
+neither true e = gives-fits e
+neither false e = over-fits e
+
+pub fits-within : (capacity n : ℕ) (l : Limits) → l .allocated ≤ capacity → roomFor capacity n l ≡ Fits → n ≤ capacity
+unfolding roomFor
+fits-within capacity n l h e = split (decLe n (l .allocated)) (decLe n capacity)
+  where
+    split : Dec (n ≤ l .allocated) → Dec (n ≤ capacity) → n ≤ capacity
+    split p (yes q) = q
+    split (yes p) (no q) = omega arith
+    split (no p) (no q) =
+        let above : l .allocated < n = omega arith in
+        let over : capacity < n = omega arith in
+        absurd (neither (ltb (l .«max_len») n) (simp (lt-leb n (l .allocated) above, lt-ltb capacity n over) at e))

@@ -1,0 +1,127 @@
+-- Runs of numbers that pass a test, and the least of a range, as loops go on by one.
+use mathlib.Core.{Path._≡_, Path.refl, Path.ap, Path.ap₂, Path.sym, Path._∙_, Bool.Bool, Bool.true, Bool.false, Bool.cond, List.List, List.[], List._∷_, List._++_, List.reverse, List.reverse-append}
+use Prim.Native.Nat.{ℕ, suc, _+_, _-_, _≤_, _<_, min, zero-le, suc-le-suc}
+use native.Mathlib.Numerals.{add-one}
+use native.Mathlib.Omega.{arith}
+use lib.ListN.{take, length, getD, length-take, length-reverse, drop-of-length-le}
+use lib.Seq.{slice, slice-empty, slice-cons, take-suc, drop-append-le, length-take-le}
+use Rattle.records.specs.Ranges.{least, heads, tails}
+
+-- ---- a loop that goes down, for the least of a range
+pub record Lowest (cs : List ℕ) (s e m i : ℕ) : Type 0 where
+  pub low : s ≤ i
+  pub high : i ≤ e
+  pub is : m ≡ least (slice i e cs)
+
+pub lowest-none : {cs : List ℕ} {s e : ℕ} → s ≤ e → Lowest cs s e 4294967295 e
+unfolding least
+lowest-none {cs} {s} {e} o = record { low = o; high = omega arith; is = rw (slice-empty e cs) }
+
+pub lowest-more : {cs : List ℕ} {s e m i : ℕ} → Lowest cs s e m i → s < i → e ≤ length cs → (c m′ : ℕ) → c ≡ getD cs (i - 1) 4294967295 → m′ ≡ min c m → Lowest cs s e m′ (i - 1)
+unfolding least
+lowest-more {cs} {s} {e} {m} {i} v o b c m′ ec em =
+    let k : suc (i - 1) ≡ i = omega arith in
+    let high : i ≤ e = v .high in
+    let first : slice (i - 1) e cs ≡ getD cs (i - 1) 4294967295 ∷ slice (suc (i - 1)) e cs = slice-cons (i - 1) e cs 4294967295 (omega arith) b in
+    let rest : least (slice (i - 1) e cs) ≡ min (getD cs (i - 1) 4294967295) (least (slice i e cs)) =
+    ap least first ∙ ap (λ (n : ℕ). min (getD cs (i - 1) 4294967295) (least (slice n e cs))) k in
+    record { low = omega arith; high = omega arith; is = em ∙ (ap₂ min ec (v .is) ∙ sym rest) }
+
+pub lowest-done : {cs : List ℕ} {s e m i : ℕ} → Lowest cs s e m i → i ≤ s → m ≡ least (slice s e cs)
+lowest-done {cs} {s} {e} {m} {i} v o =
+    let k : i ≡ s = omega arith in
+    rw k at (v .is)
+
+module _ (p : ℕ → Bool) where
+  pub heads-le : (l : List ℕ) → heads p l ≤ length l
+  unfolding heads
+  heads-le [] = zero-le
+  heads-le (x ∷ l) = pick (p x) (heads-le l)
+    where
+      pick : (b : Bool) → heads p l ≤ length l → cond b (suc (heads p l)) 0 ≤ suc (length l)
+      pick true h = suc-le-suc h
+      pick false h = zero-le
+
+  pub tails-le : (l : List ℕ) → tails p l ≤ length l
+  unfolding tails
+  tails-le l = omega (arith, heads-le (reverse l), length-reverse l)
+
+  -- one more at the front
+  pub heads-first : (f t : ℕ) (cs : List ℕ) → f < t → t ≤ length cs → heads p (slice f t cs) ≡ cond (p (getD cs f 4294967295)) (suc (heads p (slice (suc f) t cs))) 0
+  unfolding heads
+  heads-first f t cs o b = rw (slice-cons f t cs 4294967295 o b)
+
+  -- one more at the back
+  pub slice-last : (f k : ℕ) (cs : List ℕ) → f ≤ k → k < length cs → slice f (suc k) cs ≡ slice f k cs ++ (getD cs k 4294967295 ∷ [])
+  slice-last f k cs o b =
+      let l : length (take k cs) ≡ k = length-take-le k cs (omega arith) in
+      rw (take-suc cs k 4294967295 b) (drop-append-le f (take k cs) _ (omega arith))
+
+  pub tails-last : (f k : ℕ) (cs : List ℕ) → f ≤ k → k < length cs → tails p (slice f (suc k) cs) ≡ cond (p (getD cs k 4294967295)) (suc (tails p (slice f k cs))) 0
+  unfolding heads tails
+  tails-last f k cs o b = rw (slice-last f k cs o b, reverse-append (slice f k cs) (getD cs k 4294967295 ∷ []))
+
+  pub tails-none : (f t : ℕ) (cs : List ℕ) → t ≤ f → tails p (slice f t cs) ≡ 0
+  unfolding heads tails
+  tails-none f t cs o =
+      let b : length (take t cs) ≤ f = rw (length-take t cs) (omega arith) in
+      rw (drop-of-length-le (take t cs) b)
+
+-- a loop that goes up over what passes
+pub record Ahead (p : ℕ → Bool) (cs : List ℕ) (e t i : ℕ) : Type 0 where
+  pub low : e ≤ i
+  pub high : i ≤ t
+  pub is : e + heads p (slice e t cs) ≡ i + heads p (slice i t cs)
+
+module _ {p : ℕ → Bool} {cs : List ℕ} {e t : ℕ} where
+  pub ahead-none : e ≤ t → Ahead p cs e t e
+  ahead-none o = record { low = omega arith; high = o; is = refl }
+
+  pub ahead-more : {i : ℕ} → Ahead p cs e t i → i < t → t ≤ length cs → (c : ℕ) → c ≡ getD cs i 4294967295 → p c ≡ true → Ahead p cs e t (i + 1)
+  ahead-more {i} v o b c ec ty =
+      let q : p (getD cs i 4294967295) ≡ true = rw ec at ty in
+      let w : heads p (slice i t cs) ≡ suc (heads p (slice (suc i) t cs)) = heads-first p i t cs o b ∙ rw q in
+      record { low = omega arith; high = omega arith; is = rw add-one (omega (arith, v .is)) }
+
+  pub ahead-stop : {i : ℕ} → Ahead p cs e t i → i < t → t ≤ length cs → (c : ℕ) → c ≡ getD cs i 4294967295 → p c ≡ false → i ≡ e + heads p (slice e t cs)
+  ahead-stop {i} v o b c ec tn =
+      let q : p (getD cs i 4294967295) ≡ false = rw ec at tn in
+      let w : heads p (slice i t cs) ≡ 0 = heads-first p i t cs o b ∙ rw q in
+      omega (arith, v .is)
+
+  pub ahead-done : {i : ℕ} → Ahead p cs e t i → t ≤ i → i ≡ e + heads p (slice e t cs)
+  unfolding heads
+  ahead-done {i} v o =
+      let k : i ≡ t = omega arith in
+      let w : heads p (slice i t cs) ≡ 0 = rw (k, slice-empty t cs) in
+      omega (arith, v .is)
+
+-- a loop that goes down over what passes
+pub record Behind (p : ℕ → Bool) (cs : List ℕ) (f s i : ℕ) : Type 0 where
+  pub high : i ≤ s
+  pub is : tails p (slice f s cs) + i ≡ s + tails p (slice f i cs)
+
+module _ {p : ℕ → Bool} {cs : List ℕ} {f s : ℕ} where
+  pub behind-none : Behind p cs f s s
+  behind-none = record { high = omega arith; is = omega arith }
+
+  pub behind-more : {i : ℕ} → Behind p cs f s i → f < i → s ≤ length cs → (c : ℕ) → c ≡ getD cs (i - 1) 4294967295 → p c ≡ true → Behind p cs f s (i - 1)
+  behind-more {i} v o b c ec ty =
+      let high : i ≤ s = v .high in
+      let q : p (getD cs (i - 1) 4294967295) ≡ true = rw ec at ty in
+      let k : suc (i - 1) ≡ i = omega arith in
+      let w : tails p (slice f (suc (i - 1)) cs) ≡ suc (tails p (slice f (i - 1) cs)) = tails-last p f (i - 1) cs (omega arith) (omega arith) ∙ rw q in
+      let w′ : tails p (slice f i cs) ≡ suc (tails p (slice f (i - 1) cs)) = rw k at w in
+      record { high = omega arith; is = omega (arith, v .is) }
+
+  pub behind-stop : {i : ℕ} → Behind p cs f s i → f < i → s ≤ length cs → (c : ℕ) → c ≡ getD cs (i - 1) 4294967295 → p c ≡ false → i ≡ s - tails p (slice f s cs)
+  behind-stop {i} v o b c ec tn =
+      let high : i ≤ s = v .high in
+      let q : p (getD cs (i - 1) 4294967295) ≡ false = rw ec at tn in
+      let k : suc (i - 1) ≡ i = omega arith in
+      let w : tails p (slice f (suc (i - 1)) cs) ≡ 0 = tails-last p f (i - 1) cs (omega arith) (omega arith) ∙ rw q in
+      let w′ : tails p (slice f i cs) ≡ 0 = rw k at w in
+      omega (arith, v .is)
+
+  pub behind-done : {i : ℕ} → Behind p cs f s i → i ≤ f → i ≡ s - tails p (slice f s cs)
+  behind-done {i} v o = omega (arith, v .is, tails-none p f i cs o)

@@ -1,0 +1,55 @@
+-- All from e up to i are of the cluster.
+use Prim.Native.Nat.{_-_}
+use native.Mathlib.Omega.{arith}
+use borrow.Author.Tests.{eq-eqb, ne-eqb}
+use Rattle.records.specs.Ranges.{clusters, is}
+use Rattle.records.specs.View.{glyphs}
+use Rattle.records.proofs.View.{length-clusters}
+use Rattle.lists.proofs.Runs.{Ahead, ahead-none, ahead-more, ahead-stop, ahead-done}
+use Rattle.lists.proofs.ranges.equal_end.Statement.{statement}
+use Rattle.lists.proofs.ranges.equal_end.Tie as tie
+
+abbrev Inv-loop : tie.InvT-loop
+Inv-loop ws e len cluster i₀ i = Ahead (is cluster) (clusters (glyphs ws)) e len i
+
+abbrev μ-loop : tie.MeasureT-loop
+μ-loop ws e len cluster i₀ i = len - i
+
+loop-holds : tie.Need-loop-holds Inv-loop μ-loop
+loop-holds c = ahead-none (c .before .pre .0)
+
+cluster-at-requires : tie.Need-cluster-at-requires Inv-loop μ-loop
+cluster-at-requires c κs = omega arith
+
+returns : tie.Need-returns Inv-loop μ-loop
+returns c =
+    let at = c .before .before .before in
+    ahead-stop (at .loop .inv) (c .before .before .loop-test .taken) (rw (length-clusters (glyphs (at .before .before .args .ws .now))) (at .before .before .pre .1)) _ (c .before .cluster-at .ensures) (ne-eqb _ _ (c .if1 .taken))
+
+add-i : tie.Need-add-i Inv-loop μ-loop
+add-i c = omega arith
+
+loop-less : tie.Need-loop-less Inv-loop μ-loop
+loop-less c = omega arith
+
+loop-again : tie.Need-loop-again Inv-loop μ-loop
+loop-again c =
+    let at = c .before .before .before in
+    ahead-more (at .loop .inv) (c .before .before .loop-test .taken) (rw (length-clusters (glyphs (at .before .before .args .ws .now))) (at .before .before .pre .1)) _ (c .before .cluster-at .ensures) (eq-eqb _ _ (c .if1 .left))
+
+returns-2 : tie.Need-returns-2 Inv-loop μ-loop
+returns-2 c = ahead-done (c .before .loop .inv) (c .loop-test .left)
+
+pub equal-end-spec : {M : Type 1} → statement M
+equal-end-spec =
+    tie.close
+    (tie.spec
+    Inv-loop
+    μ-loop
+    loop-holds
+    cluster-at-requires
+    returns
+    add-i
+    loop-less
+    loop-again
+    returns-2)

@@ -1,0 +1,57 @@
+-- What is found so far is the least from i on.
+use native.Mathlib.Omega.{arith}
+use Rattle.records.specs.Ranges.{clusters}
+use Rattle.records.specs.View.{glyphs}
+use Rattle.records.proofs.View.{length-clusters}
+use Rattle.lists.proofs.Runs.{Lowest, lowest-none, lowest-more, lowest-done}
+use Rattle.lists.proofs.ranges.least_cluster.Statement.{statement}
+use Rattle.lists.proofs.ranges.least_cluster.Tie as tie
+
+abbrev Inv-loop : tie.InvT-loop
+Inv-loop ws s e m₀ i₀ m i = Lowest (clusters (glyphs ws)) s e m i
+
+abbrev μ-loop : tie.MeasureT-loop
+μ-loop ws s e m₀ i₀ m i = i
+
+loop-holds : tie.Need-loop-holds Inv-loop μ-loop
+loop-holds c = lowest-none (c .before .pre .0)
+
+sub-i : tie.Need-sub-i Inv-loop μ-loop
+sub-i c = omega arith
+
+cluster-at-requires : tie.Need-cluster-at-requires Inv-loop μ-loop
+cluster-at-requires c κs = omega arith
+
+loop-less : tie.Need-loop-less Inv-loop μ-loop
+loop-less c = omega arith
+
+loop-again : tie.Need-loop-again Inv-loop μ-loop
+loop-again c =
+    let at = c .before .before .before in
+    lowest-more (at .loop .inv) (c .before .before .loop-test .taken) (rw (length-clusters (glyphs (at .before .before .args .ws .now))) (at .before .before .pre .1)) _ _ (c .before .cluster-at .ensures) (omega arith)
+
+loop-less-2 : tie.Need-loop-less-2 Inv-loop μ-loop
+loop-less-2 c = omega arith
+
+loop-again-2 : tie.Need-loop-again-2 Inv-loop μ-loop
+loop-again-2 c =
+    let at = c .before .before .before in
+    lowest-more (at .loop .inv) (c .before .before .loop-test .taken) (rw (length-clusters (glyphs (at .before .before .args .ws .now))) (at .before .before .pre .1)) _ _ (c .before .cluster-at .ensures) (omega arith)
+
+returns : tie.Need-returns Inv-loop μ-loop
+returns c = lowest-done (c .before .loop .inv) (c .loop-test .left)
+
+pub least-cluster-spec : {M : Type 1} → statement M
+least-cluster-spec =
+    tie.close
+    (tie.spec
+    Inv-loop
+    μ-loop
+    loop-holds
+    sub-i
+    cluster-at-requires
+    loop-less
+    loop-again
+    loop-less-2
+    loop-again-2
+    returns)

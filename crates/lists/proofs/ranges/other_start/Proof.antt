@@ -1,0 +1,59 @@
+-- None from i up to e is of the cluster.
+use mathlib.Core.{Path.ap, Bool.not}
+use native.Mathlib.Omega.{arith}
+use borrow.Author.Tests.{eq-eqb, ne-eqb}
+use Rattle.records.specs.Ranges.{clusters, isnt}
+use Rattle.records.specs.View.{glyphs}
+use Rattle.records.proofs.View.{length-clusters}
+use Rattle.lists.proofs.Runs.{Behind, behind-none, behind-more, behind-stop, behind-done}
+use Rattle.lists.proofs.ranges.other_start.Statement.{statement}
+use Rattle.lists.proofs.ranges.other_start.Tie as tie
+
+abbrev Inv-loop : tie.InvT-loop
+Inv-loop ws s e cluster i₀ i = Behind (isnt cluster) (clusters (glyphs ws)) s e i
+
+abbrev μ-loop : tie.MeasureT-loop
+μ-loop ws s e cluster i₀ i = i
+
+loop-holds : tie.Need-loop-holds Inv-loop μ-loop
+loop-holds c = behind-none
+
+sub-cluster-at : tie.Need-sub-cluster-at Inv-loop μ-loop
+sub-cluster-at c = omega arith
+
+cluster-at-requires : tie.Need-cluster-at-requires Inv-loop μ-loop
+cluster-at-requires c κs = omega arith
+
+returns : tie.Need-returns Inv-loop μ-loop
+returns c =
+    let at = c .before .before .before in
+    behind-stop (at .loop .inv) (c .before .before .loop-test .taken) (rw (length-clusters (glyphs (at .before .before .args .ws .now))) (at .before .before .pre)) _ (c .before .cluster-at .ensures) (ap not (eq-eqb _ _ (c .if1 .taken)))
+
+sub-i : tie.Need-sub-i Inv-loop μ-loop
+sub-i c = omega arith
+
+loop-less : tie.Need-loop-less Inv-loop μ-loop
+loop-less c = omega arith
+
+loop-again : tie.Need-loop-again Inv-loop μ-loop
+loop-again c =
+    let at = c .before .before .before in
+    behind-more (at .loop .inv) (c .before .before .loop-test .taken) (rw (length-clusters (glyphs (at .before .before .args .ws .now))) (at .before .before .pre)) _ (c .before .cluster-at .ensures) (ap not (ne-eqb _ _ (c .if1 .left)))
+
+returns-2 : tie.Need-returns-2 Inv-loop μ-loop
+returns-2 c = behind-done (c .before .loop .inv) (c .loop-test .left)
+
+pub other-start-spec : {M : Type 1} → statement M
+other-start-spec =
+    tie.close
+    (tie.spec
+    Inv-loop
+    μ-loop
+    loop-holds
+    sub-cluster-at
+    cluster-at-requires
+    returns
+    sub-i
+    loop-less
+    loop-again
+    returns-2)

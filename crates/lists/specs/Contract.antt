@@ -1,0 +1,51 @@
+-- What every exported call promises: one equation to a call of the account, and what it leaves alone.
+use mathlib.Core.{Path._≡_, Bool.Bool, Bool.true, Bool.false, Bool.cond, Bool.not, List.List}
+use Prim.Native.Nat.{ℕ}
+use lib.{ListN.length}
+use Rattle.records.specs.{Contradiction, Answer, Done, Value, No, Counters.capacityOf, View.wordsFrom}
+use Rattle.lists.specs.declared.{Buffer.Buffer, Reply.Reply}
+use Rattle.lists.specs.Account.{Account}
+use Rattle.lists.specs.Results.{Result, Outcome, outcome, refuse_when_else_}
+use Rattle.lists.specs.State.{account, accountOf, sound, Held}
+
+-- refusal 1, then the call on the account of the buffer
+unfoldable pub judged : (ℕ → Account ℕ → Result ℕ) → Buffer → (first second : List ℕ) → Outcome ℕ
+judged call b f s = outcome (account b f s) (refuse Contradiction when not (sound b f s) else call (capacityOf (length f)) (account b f s))
+
+abbrev pub isNo : Answer → Bool
+isNo a = elim a [ Done ↦ false | Value v ↦ false | No r ↦ true ]
+
+-- b, f and s are the state and the slices before the call; r, f′ and s′ are what it gives back and leaves
+pub record Meets (call : ℕ → Account ℕ → Result ℕ) (b : Buffer) (f s : List ℕ) (r : Reply) (f′ s′ : List ℕ) : Type 0 where
+  -- answer and account
+  pub is : record { answer = r .answer; after = account (r .buffer) f′ s′ } ≡ judged call b f s
+  -- a refusal changes no state and no word
+  pub stays : isNo (r .answer) ≡ true → (r .buffer ≡ b) × (f′ ≡ f) × (s′ ≡ s)
+  -- "Words from the allocated size on are never written"
+  pub first-beyond : wordsFrom (r .buffer .limits .allocated) f′ ≡ wordsFrom (r .buffer .limits .allocated) f
+  pub second-beyond : wordsFrom (r .buffer .limits .allocated) s′ ≡ wordsFrom (r .buffer .limits .allocated) s
+  -- a buffer that does not contradict itself stays so
+  pub stays-sound : sound b f s ≡ true → sound (r .buffer) f′ s′ ≡ true
+
+-- ---- the same below the exported functions, for the slice that holds the run and the other. A call may exchange the two
+abbrev pub exchanged : Bool → Bool → Bool
+exchanged x y = cond x (not y) y
+
+unfoldable pub accountIn : (before : Bool) → Buffer → (run other : List ℕ) → Account ℕ
+accountIn before r run other = cond (exchanged before (r .swapped)) (accountOf r other run) (accountOf r run other)
+
+pub record MeetsIn (call : ℕ → Account ℕ → Result ℕ) (b : Buffer) (run other : List ℕ) (r : Reply) (run′ other′ : List ℕ) : Type 0 where
+  pub is : record { answer = r .answer; after = accountIn (b .swapped) (r .buffer) run′ other′ } ≡ outcome (accountOf b run other) (call (capacityOf (length run)) (accountOf b run other))
+  pub stays : isNo (r .answer) ≡ true → (r .buffer ≡ b) × (run′ ≡ run) × (other′ ≡ other)
+  pub run-beyond : wordsFrom (r .buffer .limits .allocated) run′ ≡ wordsFrom (r .buffer .limits .allocated) run
+  pub other-beyond : wordsFrom (r .buffer .limits .allocated) other′ ≡ wordsFrom (r .buffer .limits .allocated) other
+  pub held : Held (r .buffer) run other
+
+-- what a move within the slices does: h on the account, nothing beyond the allocated size, the limits as they were
+pub record Moves (h : Account ℕ → Account ℕ) (b : Buffer) (run other : List ℕ) (r : Buffer) (run′ other′ : List ℕ) : Type 0 where
+  pub is : accountOf r run′ other′ ≡ h (accountOf b run other)
+  pub limits : r .limits ≡ b .limits
+  pub side : r .swapped ≡ b .swapped
+  pub run-beyond : wordsFrom (b .limits .allocated) run′ ≡ wordsFrom (b .limits .allocated) run
+  pub other-beyond : wordsFrom (b .limits .allocated) other′ ≡ wordsFrom (b .limits .allocated) other
+  pub held : Held r run other
