@@ -1,0 +1,170 @@
+// Drives the calls of `lists` over a run of three glyphs, and prints what each answers and leaves.
+use lists::Buffer;
+use lists::Reply;
+use records::Answer;
+use records::DonePlace;
+use records::Glyph;
+use records::InputPlace;
+use records::Phase;
+use records::Refusal;
+
+fn number(why: Refusal) -> u64 {
+    match why {
+        Refusal::Contradiction => 1,
+        Refusal::WrongPhase => 2,
+        Refusal::OutOfRange => 3,
+        Refusal::BadOperand => 4,
+        Refusal::OverCapacity => 5,
+        Refusal::Unreadable => 6,
+    }
+}
+
+fn field(n: u64) {
+    io::write_all(1, b" ");
+    io::print_decimal(1, n);
+}
+
+// The answer, then len, idx, out_len, max_ops.
+fn shown(r: Reply) -> Buffer {
+    let answer = r.answer;
+    match answer {
+        Answer::Done => {
+            io::write_all(1, b"ok");
+        }
+        Answer::Value(v) => {
+            io::write_all(1, b"ok");
+            field(v as u64);
+        }
+        Answer::No(why) => {
+            io::write_all(1, b"no");
+            field(number(why));
+        }
+    }
+    let b = r.buffer;
+    io::write_all(1, b" |");
+    field(b.len.0 as u64);
+    field(b.idx.0 as u64);
+    field(b.out_len.0 as u64);
+    field(b.limits.max_ops as u64);
+    io::write_all(1, b"\n");
+    b
+}
+
+fn print_glyph(g: Glyph) {
+    field(g.glyph as u64);
+    field(g.mask as u64);
+    field(g.cluster as u64);
+    field(g.var0 as u64);
+    field(g.var1 as u64);
+}
+
+// The glyphs of a slice, all of their words.
+fn print_glyphs(ws: &[u32]) {
+    for i in 0..records::glyphs::capacity(ws) {
+        print_glyph(records::glyphs::get(ws, i));
+    }
+    io::write_all(1, b"\n");
+}
+
+fn glyph(number: u32, cluster: u32) -> Glyph {
+    Glyph {
+        glyph: number,
+        mask: 0,
+        cluster: cluster,
+        var0: 0,
+        var1: 0,
+    }
+}
+
+// A plain run of three glyphs, with room for six.
+fn start() -> Buffer {
+    let mut limits = records::counters::fresh();
+    limits.allocated = 6;
+    Buffer {
+        idx: InputPlace(0),
+        len: InputPlace(3),
+        out_len: DonePlace(0),
+        phase: Phase::Plain,
+        limits: limits,
+        level: 0,
+        wants: 0,
+        swapped: false,
+        have_separate_output: false,
+    }
+}
+
+// The cursor with output in the run, and back.
+fn within(b: Buffer, first: &mut [u32], second: &mut [u32]) -> Buffer {
+    let b = shown(lists::cursor::clear_output(b, first, second));
+    let b = shown(lists::cursor::next_glyph(b, first, second));
+    let b = shown(lists::cursor::skip_glyph(b, first, second));
+    print_glyphs(lists::cursor::out_info(b, first, second));
+    let b = shown(lists::cursor::next_glyphs(b, first, second, 2));
+    let b = shown(lists::cursor::move_to(b, first, second, 2));
+    print_glyphs(lists::cursor::out_info(b, first, second));
+    let b = shown(lists::cursor::move_to(b, first, second, 0));
+    let b = shown(lists::cursor::move_to(b, first, second, 9));
+    shown(lists::cursor::sync(b, first, second))
+}
+
+// Output that lies apart: three glyphs are written there, none of the input is gone.
+fn apart(b: Buffer) -> Buffer {
+    let mut r = b;
+    let o = DonePlace(3);
+    r.out_len = o;
+    r.have_separate_output = true;
+    r
+}
+
+fn across(b: Buffer, first: &mut [u32], second: &mut [u32]) -> Buffer {
+    let b = apart(shown(lists::cursor::clear_output(b, first, second)));
+    print_glyphs(lists::cursor::out_info(b, first, second));
+    let b = shown(lists::cursor::move_to(b, first, second, 1));
+    print_glyphs(lists::cursor::out_info(b, first, second));
+    let b = shown(lists::cursor::move_to(b, first, second, 2));
+    let b = shown(lists::cursor::sync(b, first, second));
+    shown(lists::cursor::sync(b, first, second))
+}
+
+// Counters, and the phases without output.
+fn plain(b: Buffer, first: &mut [u32], second: &mut [u32]) -> Buffer {
+    let b = shown(lists::cursor::enter(b, first, second));
+    let b = shown(lists::cursor::allocate_lig_id(b, first, second));
+    let b = shown(lists::cursor::leave(b, first, second));
+    let b = shown(lists::cursor::next_glyph(b, first, second));
+    let b = shown(lists::cursor::clear_positions(b, first, second));
+    let b = shown(lists::cursor::skip_glyph(b, first, second));
+    let b = shown(lists::cursor::move_to(b, first, second, 0));
+    let b = shown(lists::cursor::fresh(b, first, second, 5, 4));
+    shown(lists::cursor::fresh(b, first, second, 5, 3))
+}
+
+// Puts a glyph at a place, if the slice has it.
+fn put_at(ws: &mut [u32], at: usize, number: u32) {
+    if at < records::glyphs::capacity(ws) {
+        records::glyphs::put(ws, at, glyph(number, number % 32));
+    }
+}
+
+fn fill(ws: &mut [u32], a: u32, b: u32, c: u32) {
+    put_at(ws, 0, a);
+    put_at(ws, 1, b);
+    put_at(ws, 2, c);
+}
+
+fn main() {
+    let mut first = [0u32; 30];
+    let mut second = [7u32; 30];
+    let short = [0u32; 25];
+    fill(&mut first, 64, 65, 66);
+    let b = within(start(), &mut first, &mut second);
+    fill(&mut first, 64, 65, 66);
+    fill(&mut second, 96, 97, 98);
+    let b = across(start(), &mut first, &mut second);
+    print_glyphs(&first);
+    print_glyphs(&second);
+    let b = plain(start(), &mut first, &mut second);
+    print_glyphs(&first);
+    print_glyphs(&second);
+    let b = shown(lists::cursor::enter(start(), &first, &short));
+}
