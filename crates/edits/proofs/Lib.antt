@@ -1,3 +1,11 @@
+pub mod Bridge
 pub mod Examples
 pub mod Executable
+pub mod FlagLaws
+pub mod Holding
+pub mod MergeLaws
+pub mod Merges
+pub mod OutFlags
+pub mod OutMerges
+pub mod Places
 pub mod Renaming

@@ -4,3 +4,5 @@ pub mod Deleting
 pub mod Flags
 pub mod WholeRun
 pub mod Groups
+pub mod Holding
+pub mod Plans

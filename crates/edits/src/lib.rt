@@ -1,1 +1,23 @@
 // Edits of the shaping buffer. The account of writing, merging, deleting, flags and the whole run stands in specs/.
+pub mod flags;
+pub mod merging;
+
+// What a merge of a range changes: m, the cluster of the range's first glyph, the range as it grew, and whether the
+// equal tail of the output goes with it.
+pub struct Merge {
+    pub lowest: u32,
+    pub leader: u32,
+    pub from: usize,
+    pub to: usize,
+    pub tail: bool,
+}
+
+// What a merge in the output changes: m, the cluster of the range's last glyph, the range as it grew, and whether the
+// equal head of the input goes with it.
+pub struct OutMerge {
+    pub lowest: u32,
+    pub closer: u32,
+    pub from: usize,
+    pub to: usize,
+    pub head: bool,
+}

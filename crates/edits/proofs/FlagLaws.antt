@@ -1,0 +1,198 @@
+-- The interior form of a flag: from what its loops say, and to the account.
+use mathlib.Core.{Path._≡_, Path.refl, Path.ap, Path.sym, Path._∙_, Bool.Bool, Bool.true, Bool.false, Bool.cond, Bool._&&_, Bool._||_, List.List, List.[]}
+use Prim.Native.Nat.{ℕ, _+_, _-_, _≤_, _<_, min}
+use native.Mathlib.Nat.{add-zero, sub-zero}
+use native.Mathlib.Omega.{arith}
+use lib.Dec.{ltb}
+use lib.ListN.{take, drop, length, getD}
+use lib.Seq.{slice, slice-empty, length-slice}
+use borrow.Author.Tests.{eq-eqb, ne-eqb, lt-ltb, le-ltb}
+use Rattle.records.specs.{Glyphs.Glyph, Glyphs.flagged, Glyphs.flaggedUnless, Ranges.edit, Ranges.is, Ranges.isnt, Ranges.least, Ranges.first, Ranges.last, Ranges.heads, Ranges.tails, Ranges.clusters}
+use Rattle.records.proofs.View.{length-clusters}
+use Rattle.lists.specs.Account.{Account, State, input, withInput}
+use Rattle.lists.proofs.{Runs.heads-le, Runs.tails-le, Editing.edit-empty, Editing.edit-length}
+use Rattle.edits.specs.Flags.{interior, sought, flagInterior, flagAll}
+use Rattle.edits.specs.Holding.{holds, cut}
+use Rattle.edits.specs.Plans.{InputRange, InputFrom}
+use Rattle.edits.proofs.Merges.{first-slice, last-slice}
+use Rattle.edits.proofs.Holding.{slice-take, slice-shift, clusters-take, clusters-drop, edit-take-before, edit-drop-behind}
+use Rattle.edits.proofs.Bridge.{input-is, holds-input, input-edit}
+
+pub ahead-within : (p : ℕ → Bool) (l : List (Glyph ℕ)) (i j r : ℕ) → r ≡ i + heads p (slice i j (clusters l)) → i ≤ j → j ≤ length l → (i ≤ r) × (r ≤ length l)
+ahead-within p l i j r er o b =
+    let n : length (slice i j (clusters l)) ≡ j - i = length-slice i j (clusters l) (rw (length-clusters l) b) in
+    let h : heads p (slice i j (clusters l)) ≤ j - i = omega (arith, heads-le p (slice i j (clusters l))) in
+    (omega arith, omega arith)
+
+-- f and e are the clusters at the ends of a range i..j of l, and t says whether every glyph not of m is marked
+pub record Ends (l : List (Glyph ℕ)) (level m i j f e : ℕ) (t : Bool) : Type 0 where
+  pub order : i < j
+  pub fits : j ≤ length l
+  pub first-is : f ≡ getD (clusters l) i 4294967295
+  pub last-is : e ≡ getD (clusters l) (j - 1) 4294967295
+  pub test : t ≡ (is 2 level || (isnt m f && isnt m e))
+
+module _ {l : List (Glyph ℕ)} {level m i j f e : ℕ} {t : Bool} (v : Ends l level m i j f e t) (bits : ℕ) where
+  f-is : first (slice i j (clusters l)) ≡ f
+  f-is = first-slice i j (clusters l) (v .order) (rw (length-clusters l) (v .fits)) ∙ sym (v .first-is)
+
+  e-is : last (slice i j (clusters l)) ≡ e
+  e-is = last-slice i j (clusters l) (v .order) (rw (length-clusters l) (v .fits)) ∙ sym (v .last-is)
+
+  pub interior-all : {l′ : List (Glyph ℕ)} → t ≡ true → l′ ≡ edit i j (flaggedUnless m bits) l → l′ ≡ interior level m bits i j l
+  unfolding interior
+  interior-all yt el = rw (f-is, e-is, ← v .test, yt) el
+
+  pub interior-back : {at : ℕ} {l′ : List (Glyph ℕ)} → t ≡ false → f ≡ m → at ≡ j - tails (isnt m) (slice i j (clusters l)) → l′ ≡ edit at j (flagged bits) l → l′ ≡ interior level m bits i j l
+  unfolding interior
+  interior-back {at} nt fm ea el = rw (f-is, e-is, ← v .test, nt, eq-eqb f m fm, ← ea) el
+
+  pub interior-front : {at : ℕ} {l′ : List (Glyph ℕ)} → t ≡ false → (f ≡ m → ⊥) → at ≡ i + heads (isnt m) (slice i j (clusters l)) → l′ ≡ edit i at (flagged bits) l → l′ ≡ interior level m bits i j l
+  unfolding interior
+  interior-front {at} nt fm ea el = rw (f-is, e-is, ← v .test, nt, ne-eqb f m fm, ← ea) el
+
+-- ---- what a flag form seeks
+pub sought-ends : (level s e : ℕ) (cs : List ℕ) → (level ≡ 2 → ⊥) → s < e → e ≤ length cs → sought level (slice s e cs) ≡ min (getD cs s 4294967295) (getD cs (e - 1) 4294967295)
+unfolding sought
+sought-ends level s e cs n o b = rw (ne-eqb level 2 n, first-slice s e cs o b, last-slice s e cs o b)
+
+-- ---- flags in the input, seen from the input
+module _ (level m bits gone len i j : ℕ) (run : List (Glyph ℕ)) (oi : gone ≤ i) (oj : i ≤ j) (ol : j ≤ len) (of : len ≤ length run) where
+  range-in : slice (i - gone) (j - gone) (clusters (slice gone len run)) ≡ slice i j (clusters run)
+  range-in = rw (clusters-drop gone (take len run), clusters-take len run)
+      (sym (slice-shift gone i j (cut len run) oi (omega arith)) ∙ slice-take i j len (clusters run) ol)
+
+  pub interior-in : slice gone len (interior level m bits i j run) ≡ interior level m bits (i - gone) (j - gone) (slice gone len run)
+  unfolding interior
+  interior-in =
+      let r : List ℕ = slice i j (clusters run) in
+      let n : length r ≡ j - i = length-slice i j (clusters run) (rw (length-clusters run) (omega arith)) in
+      let t : tails (isnt m) r ≤ j - i = omega (arith, tails-le (isnt m) r) in
+      let h : heads (isnt m) r ≤ j - i = omega (arith, heads-le (isnt m) r) in
+      rw range-in (pick (is 2 level || (isnt m (first r) && isnt m (last r))) (is m (first r)) (tails (isnt m) r) (heads (isnt m) r) t h)
+    where
+      back : (t : ℕ) → t ≤ j - i → j - t - gone ≡ j - gone - t
+      back t o = omega arith
+
+      on : (t : ℕ) → i + t - gone ≡ i - gone + t
+      on t = omega arith
+
+      pick : (b c : Bool) (t h : ℕ) → t ≤ j - i → h ≤ j - i
+          → slice gone len (cond b (edit i j (flaggedUnless m bits) run) (cond c (edit (j - t) j (flagged bits) run) (edit i (i + h) (flagged bits) run)))
+          ≡ cond b (edit (i - gone) (j - gone) (flaggedUnless m bits) (slice gone len run)) (cond c (edit (j - gone - t) (j - gone) (flagged bits) (slice gone len run)) (edit (i - gone) (i - gone + h) (flagged bits) (slice gone len run)))
+      pick true c t h ot oh = input-edit (flaggedUnless m bits) gone len i j run oi oj ol
+      pick false true t h ot oh = input-edit (flagged bits) gone len (j - t) j run (omega arith) (omega arith) ol ∙ rw (back t ot)
+      pick false false t h ot oh = input-edit (flagged bits) gone len i (i + h) run oi (omega arith) (omega arith) ∙ rw (on h)
+
+pub interior-length : (level m bits i j : ℕ) (run : List (Glyph ℕ)) → i ≤ j → length (interior level m bits i j run) ≡ length run
+unfolding interior
+interior-length level m bits i j run o =
+    let r : List ℕ = slice i j (clusters run) in
+    pick (is 2 level || (isnt m (first r) && isnt m (last r))) (is m (first r)) (tails (isnt m) r) (heads (isnt m) r)
+  where
+    pick : (b c : Bool) (t h : ℕ) → length (cond b (edit i j (flaggedUnless m bits) run) (cond c (edit (j - t) j (flagged bits) run) (edit i (i + h) (flagged bits) run))) ≡ length run
+    pick true c t h = edit-length (flaggedUnless m bits) i j run o
+    pick false true t h = edit-length (flagged bits) (j - t) j run (omega arith)
+    pick false false t h = edit-length (flagged bits) i (i + h) run (omega arith)
+
+-- nothing outside the range is reached
+module _ (level m bits n i j : ℕ) (run : List (Glyph ℕ)) (o : i ≤ j) (b : j ≤ length run) where
+  pub interior-behind : j ≤ n → drop n (interior level m bits i j run) ≡ drop n run
+  unfolding interior
+  interior-behind f =
+      let r : List ℕ = slice i j (clusters run) in
+      let w : length r ≡ j - i = length-slice i j (clusters run) (rw (length-clusters run) b) in
+      pick (is 2 level || (isnt m (first r) && isnt m (last r))) (is m (first r)) (tails (isnt m) r) (heads (isnt m) r) (omega (arith, heads-le (isnt m) r))
+    where
+      pick : (b c : Bool) (t h : ℕ) → h ≤ j - i → drop n (cond b (edit i j (flaggedUnless m bits) run) (cond c (edit (j - t) j (flagged bits) run) (edit i (i + h) (flagged bits) run))) ≡ drop n run
+      pick true c t h oh = edit-drop-behind (flaggedUnless m bits) i j n run o f
+      pick false true t h oh = edit-drop-behind (flagged bits) (j - t) j n run (omega arith) f
+      pick false false t h oh = edit-drop-behind (flagged bits) i (i + h) n run (omega arith) (omega arith)
+
+  pub interior-before : n ≤ i → take n (interior level m bits i j run) ≡ take n run
+  unfolding interior
+  interior-before a =
+      let r : List ℕ = slice i j (clusters run) in
+      let t : tails (isnt m) r ≤ j - i = omega (arith, tails-le (isnt m) r, length-slice i j (clusters run) (rw (length-clusters run) b)) in
+      pick (is 2 level || (isnt m (first r) && isnt m (last r))) (is m (first r)) (tails (isnt m) r) (heads (isnt m) r) t
+    where
+      pick : (b c : Bool) (t h : ℕ) → t ≤ j - i → take n (cond b (edit i j (flaggedUnless m bits) run) (cond c (edit (j - t) j (flagged bits) run) (edit i (i + h) (flagged bits) run))) ≡ take n run
+      pick true c t h ot = edit-take-before (flaggedUnless m bits) i j n run a o
+      pick false true t h ot = edit-take-before (flagged bits) (j - t) j n run (omega arith) (omega arith)
+      pick false false t h ot = edit-take-before (flagged bits) i (i + h) n run a (omega arith)
+
+-- ---- the account after a plain form. Of any two lists
+pub level-held : (run out : List (Glyph ℕ)) (gone idx len outLen : ℕ) (k : State) → (holds run out gone idx len outLen k) .state .level ≡ k .level
+unfolding holds
+level-held run out gone idx len outLen k = refl
+
+width : (g s e : ℕ) → g ≤ s → s ≤ e → e - g - (s - g) ≡ e - s
+width g s e o p = omega arith
+
+module _ {run out : List (Glyph ℕ)} {gone idx len outLen s e : ℕ} (v : InputRange run out len outLen s e) (w : InputFrom gone idx len s) (bits : ℕ) (k : State) where
+  -- under two glyphs
+  pub flagged-none : e - s < 2 → holds run out gone idx len outLen k ≡ flagInterior bits (s - gone) (e - gone) (holds run out gone idx len outLen k)
+  unfolding flagInterior
+  flagged-none h = rw (lt-ltb (e - gone - (s - gone)) 2 (rw (width gone s e (w .start) (v .order)) h))
+
+  pub flagged-held : (level : ℕ) {run′ : List (Glyph ℕ)} (out′ : List (Glyph ℕ)) → 2 ≤ e - s → k .level ≡ level → run′ ≡ interior level (sought level (slice s e (clusters run))) bits s e run → take outLen out′ ≡ take outLen out
+      → holds run′ out′ gone idx len outLen k ≡ flagInterior bits (s - gone) (e - gone) (holds run out gone idx len outLen k)
+  unfolding flagInterior
+  flagged-held level {run′} out′ two el er eo =
+      let order : s ≤ e = v .order in
+      let a : Account ℕ = holds run out gone idx len outLen k in
+      let in-is : input a ≡ slice gone len run = input-is run out gone idx len outLen k (w .cursor) (w .inside) (v .fits) in
+      let lv : a .state .level ≡ level = level-held run out gone idx len outLen k ∙ el in
+      let wide : ltb (e - gone - (s - gone)) 2 ≡ false = le-ltb (e - gone - (s - gone)) 2 (rw (width gone s e (w .start) order) two) in
+      let R : List ℕ = slice s e (clusters run) in
+      let I : List (Glyph ℕ) = slice gone len run in
+      let L : List (Glyph ℕ) = interior level (sought level R) bits (s - gone) (e - gone) I in
+      rw (wide, in-is, range-in level 0 bits gone len s e run (w .start) order (v .end) (v .fits))
+      (holds-input run out gone idx len outLen k (w .cursor) (w .inside) (v .fits) run′ out′ L (rw er (interior-in level (sought level R) bits gone len s e run (w .start) order (v .end) (v .fits))) eo
+      ∙ ap (λ (x : ℕ). withInput (interior x (sought x R) bits (s - gone) (e - gone) I) a) (sym lv))
+
+  -- every glyph of the range
+  pub flagged-all : {run′ : List (Glyph ℕ)} (out′ : List (Glyph ℕ)) → run′ ≡ edit s e (flagged bits) run → take outLen out′ ≡ take outLen out
+      → holds run′ out′ gone idx len outLen k ≡ flagAll bits (s - gone) (e - gone) (holds run out gone idx len outLen k)
+  unfolding flagAll
+  flagged-all {run′} out′ er eo =
+      let order : s ≤ e = v .order in
+      let a : Account ℕ = holds run out gone idx len outLen k in
+      let in-is : input a ≡ slice gone len run = input-is run out gone idx len outLen k (w .cursor) (w .inside) (v .fits) in
+      holds-input run out gone idx len outLen k (w .cursor) (w .inside) (v .fits) run′ out′ _ (rw (er, in-is) (input-edit (flagged bits) gone len s e run (w .start) order (v .end))) eo
+
+-- the output in the run itself: the same, as it is not reached
+module _ {run : List (Glyph ℕ)} {gone idx len outLen s e : ℕ} (v : InputRange run run len outLen s e) (w : InputFrom gone idx len s) (low : outLen ≤ gone) (bits : ℕ) (k : State) where
+  pub flagged-within : (level : ℕ) {run′ : List (Glyph ℕ)} → 2 ≤ e - s → k .level ≡ level → run′ ≡ interior level (sought level (slice s e (clusters run))) bits s e run
+      → holds run′ run′ gone idx len outLen k ≡ flagInterior bits (s - gone) (e - gone) (holds run run gone idx len outLen k)
+  flagged-within level {run′} two el er =
+      let order : s ≤ e = v .order in
+      let start : gone ≤ s = w .start in
+      flagged-held v w bits k level run′ two el er
+      (rw er (interior-before level (sought level (slice s e (clusters run))) bits outLen s e run (omega arith) (omega (arith, v .end, v .fits)) (omega arith)))
+
+  pub flagged-all-within : {run′ : List (Glyph ℕ)} → run′ ≡ edit s e (flagged bits) run → holds run′ run′ gone idx len outLen k ≡ flagAll bits (s - gone) (e - gone) (holds run run gone idx len outLen k)
+  flagged-all-within {run′} er =
+      let order : s ≤ e = v .order in
+      let start : gone ≤ s = w .start in
+      flagged-all v w bits k run′ er (rw er (edit-take-before (flagged bits) s e outLen run (omega arith) (omega arith)))
+
+-- ---- an empty range
+pub interior-empty : (level m bits i : ℕ) (l : List (Glyph ℕ)) → interior level m bits i i l ≡ l
+unfolding interior heads tails
+interior-empty level m bits i l =
+    let none : slice i i (clusters l) ≡ [] = slice-empty i (clusters l) in
+    rw (none, add-zero i, sub-zero i, edit-empty (flaggedUnless m bits) i l, edit-empty (flagged bits) i l) (same (is 2 level || (isnt m (first []) && isnt m (last []))) (is m (first [])))
+  where
+    same : (b c : Bool) → cond b l (cond c l l) ≡ l
+    same true c = refl
+    same false true = refl
+    same false false = refl
+
+pub sought-empty : (level i : ℕ) (cs : List ℕ) → sought level (slice i i cs) ≡ 4294967295
+unfolding sought least first last
+sought-empty level i cs = rw (slice-empty i cs) (same (is 2 level))
+  where
+    same : (b : Bool) → cond b 4294967295 (min 4294967295 4294967295) ≡ 4294967295
+    same true = refl
+    same false = refl

@@ -1,0 +1,154 @@
+-- A merge in the output, from what its loops say, to the account.
+use mathlib.Core.{Path._≡_, Path.refl, Path.ap, Path.sym, Path._∙_, Bool.Bool, Bool.true, Bool.false, Bool.cond, List.List}
+use Prim.Native.Nat.{ℕ, _+_, _-_, _≤_, _<_}
+use native.Mathlib.Nat.{le-refl}
+use native.Mathlib.Omega.{arith}
+use lib.Dec.{eqb}
+use lib.ListN.{take, drop, length, getD, length-drop}
+use lib.Seq.{slice, take-take, length-slice, length-take-le}
+use Rattle.records.specs.{Glyphs.Glyph, Glyphs.Info, Glyphs.setCluster, Counters.costs, Ranges.edit, Ranges.is, Ranges.least, Ranges.first, Ranges.last, Ranges.heads, Ranges.tails, Ranges.clusters}
+use Rattle.records.proofs.View.{length-clusters}
+use Rattle.lists.specs.Account.{Account, State, input, paying}
+use Rattle.lists.proofs.Runs.{heads-le}
+use Rattle.edits.specs.declared.{OutMerge.OutMerge}
+use Rattle.edits.specs.Merging.{outStart, outEnd, outHead, mergedOut}
+use Rattle.edits.specs.Holding.{holds, paid, cut}
+use Rattle.edits.specs.Plans.{outPlan, headEnd, mergedOutput, mergedHead, OutMergeable, MergedOutApart, MergedOutWithin}
+use Rattle.edits.proofs.Merges.{first-slice, last-slice}
+use Rattle.edits.proofs.Holding.{slice-take, edit-take, edit-take-before, edit-drop-behind}
+use Rattle.edits.proofs.Bridge.{input-is, input-clusters, done-is, done-clusters, holds-limiting, input-edit, input-kept}
+
+-- ---- the plan
+module _ (l : List (Glyph ℕ)) (n s e : ℕ) (o : s < e) (b : e ≤ n) (f : n ≤ length l) where
+  pub out-planned : {m c d from to : ℕ} {h : Bool} → m ≡ least (slice s e (clusters l)) → c ≡ getD (clusters l) s 4294967295 → d ≡ getD (clusters l) (e - 1) 4294967295
+      → from ≡ s - tails (is c) (slice 0 s (clusters l)) → to ≡ e + heads (is d) (slice e n (clusters l)) → h ≡ eqb to n
+      → _≡_ {A = OutMerge} (record { lowest = m; closer = d; from = from; to = to; head = h }) (outPlan s e (cut n l))
+  unfolding outPlan outStart outEnd
+  out-planned {m} {c} {d} {from} {to} {h} em ec ed ef et eh =
+      let cs : List ℕ = clusters l in
+      let w : e ≤ length cs = rw (length-clusters l) (omega arith) in
+      let r : slice s e (cut n l) ≡ slice s e cs = slice-take s e n cs b in
+      let t : take s (cut n l) ≡ take s cs = take-take s n cs (omega arith) in
+      let z : length (cut n l) ≡ n = length-take-le n cs (rw (length-clusters l) f) in
+      let fi : first (slice s e cs) ≡ c = first-slice s e cs o w ∙ sym ec in
+      let la : last (slice s e cs) ≡ d = last-slice s e cs o w ∙ sym ed in
+      rw (r, t, z, fi, la, ← em, ← ef, ← et, eh)
+
+module _ {run out : List (Glyph ℕ)} {idx len outLen s e : ℕ} (v : OutMergeable run out idx len outLen s e) (p : OutMerge) (ep : p ≡ outPlan s e (cut outLen out)) where
+  pub out-order : (p .from ≤ p .to) × (p .to ≤ outLen)
+  unfolding outPlan outStart outEnd
+  out-order =
+      let X : List ℕ = cut outLen out in
+      let r : List ℕ = slice s e X in
+      let n : length X ≡ outLen = length-take-le outLen (clusters out) (rw (length-clusters out) (v .out-fits)) in
+      let ef : p .from ≡ s - tails (is (first r)) (take s X) = ap (λ (q : OutMerge). q .from) ep in
+      let et : p .to ≡ e + heads (is (last r)) (drop e X) = ap (λ (q : OutMerge). q .to) ep in
+      let h : heads (is (last r)) (drop e X) ≤ length X - e = rw (length-drop e X) at (heads-le (is (last r)) (drop e X)) in
+      let o : s < e = v .order in
+      let b : e ≤ outLen = v .end in
+      (omega arith, omega arith)
+
+  out-holds : (run′ out′ : List (Glyph ℕ)) (at : ℕ) → at ≡ headEnd (p .head) (p .closer) idx (slice idx len (clusters run))
+      → slice idx len run′ ≡ edit 0 (at - idx) (setCluster (p .lowest) 0) (slice idx len run)
+      → take outLen out′ ≡ edit (p .from) (p .to) (setCluster (p .lowest) 0) (take outLen out)
+      → (k : State) → holds run′ out′ idx idx len outLen (paid (e - s) k) ≡ mergedOut s e (holds run out idx idx len outLen k)
+  unfolding outPlan outHead mergedOut paying headEnd
+  out-holds run′ out′ at ea el ed k =
+      let a : Account ℕ = holds run out idx idx len outLen k in
+      let in-is : input a ≡ slice idx len run = input-is run out idx idx len outLen k (le-refl idx) (v .inside) (v .fits) in
+      let cs-is : clusters (input a) ≡ drop idx (cut len run) = input-clusters run out idx idx len outLen k (le-refl idx) (v .inside) (v .fits) in
+      let d-is : a .done ≡ take outLen out = done-is run out idx idx len outLen k (le-refl idx) (v .inside) (v .fits) in
+      let ds-is : clusters (a .done) ≡ cut outLen out = done-clusters run out idx idx len outLen k (le-refl idx) (v .inside) (v .fits) in
+      let at-is : at - idx ≡ cond (p .head) (heads (is (p .closer)) (slice idx len (clusters run))) 0 = omega arith in
+      holds-limiting run out idx idx len outLen k (le-refl idx) (v .inside) (v .fits) (costs (e - s)) run′ out′ _ _
+      (el ∙ rw (at-is, ep, cs-is, in-is, ds-is))
+      (ed ∙ rw (ep, ds-is, d-is))
+
+  -- the head of the input ends in the input
+  pub head-order : (at : ℕ) → at ≡ headEnd (p .head) (p .closer) idx (slice idx len (clusters run)) → (idx ≤ at) × (at ≤ len)
+  unfolding headEnd
+  head-order at ea =
+      let cs : List ℕ = clusters run in
+      let n : length (slice idx len cs) ≡ len - idx = length-slice idx len cs (rw (length-clusters run) (v .fits)) in
+      let o : idx ≤ len = v .inside in
+      let h : heads (is (p .closer)) (slice idx len cs) ≤ len - idx = omega (arith, heads-le (is (p .closer)) (slice idx len cs)) in
+      (omega arith, rw ea (pick (p .head) (heads (is (p .closer)) (slice idx len cs)) h o))
+    where
+      pick : (b : Bool) (t : ℕ) → t ≤ len - idx → idx ≤ len → idx + cond b t 0 ≤ len
+      pick true t h o = omega arith
+      pick false t h o = omega arith
+
+zero-of : (n : ℕ) → n - n ≡ 0
+zero-of n = omega arith
+
+module _ {run out : List (Glyph ℕ)} {idx len outLen s e : ℕ} (v : OutMergeable run out idx len outLen s e) where
+  planned-out-apart : {run′ out′ : List (Glyph ℕ)} (p : OutMerge) → p ≡ outPlan s e (cut outLen out)
+      → (at : ℕ) → at ≡ headEnd (p .head) (p .closer) idx (slice idx len (clusters run))
+      → run′ ≡ edit idx at (setCluster (p .lowest) 0) run → out′ ≡ edit (p .from) (p .to) (setCluster (p .lowest) 0) out → MergedOutApart idx len outLen s e run out run′ out′
+  planned-out-apart {run′} {out′} p ep at ea er eo =
+      let h : Info → Info = setCluster (p .lowest) 0 in
+      let o = out-order v p ep in
+      let q = head-order v p ep at ea in
+      record {
+        account = out-holds v p ep run′ out′ at ea
+            (rw er (input-edit h idx len idx at run (le-refl idx) (q .0) (q .1) ∙ rw (zero-of idx)))
+            (rw eo (edit-take h (p .from) (p .to) outLen out (o .0) (o .1)));
+        before = rw er (edit-take-before h idx at idx run (le-refl idx) (q .0));
+        behind = rw er (edit-drop-behind h idx at len run (q .0) (q .1));
+        out-behind = rw eo (edit-drop-behind h (p .from) (p .to) outLen out (o .0) (o .1));
+      }
+
+  -- THE LAW of a merge in an output that is held apart: of any two lists
+  pub merged-out-apart : {run′ out′ : List (Glyph ℕ)} → run′ ≡ mergedHead (outPlan s e (cut outLen out)) idx len run → out′ ≡ mergedOutput (outPlan s e (cut outLen out)) out
+      → MergedOutApart idx len outLen s e run out run′ out′
+  unfolding mergedHead mergedOutput
+  merged-out-apart er eo = planned-out-apart _ refl _ refl er eo
+
+module _ {run : List (Glyph ℕ)} {idx len outLen s e : ℕ} (v : OutMergeable run run idx len outLen s e) (low : outLen ≤ idx) where
+  planned-out-within : {mid run′ : List (Glyph ℕ)} (p : OutMerge) → p ≡ outPlan s e (cut outLen run)
+      → (at : ℕ) → at ≡ headEnd (p .head) (p .closer) idx (slice idx len (clusters run))
+      → mid ≡ edit idx at (setCluster (p .lowest) 0) run → run′ ≡ edit (p .from) (p .to) (setCluster (p .lowest) 0) mid → MergedOutWithin idx len outLen s e run run′
+  planned-out-within {mid} {run′} p ep at ea em er =
+      let h : Info → Info = setCluster (p .lowest) 0 in
+      let o = out-order v p ep in
+      let q = head-order v p ep at ea in
+      let inside : idx ≤ len = v .inside in
+      let until : p .to ≤ outLen = o .1 in
+      record {
+        account = out-holds v p ep run′ run′ at ea
+            (rw er (input-kept h idx len (p .from) (p .to) mid (o .0) (omega arith) inside ∙ rw em (input-edit h idx len idx at run (le-refl idx) (q .0) (q .1) ∙ rw (zero-of idx))))
+            (rw er (edit-take h (p .from) (p .to) outLen mid (o .0) (o .1) ∙ rw em (rw (edit-take-before h idx at outLen run low (q .0)))));
+        between = rw er (ap (drop outLen) (edit-take h (p .from) (p .to) idx mid (o .0) (omega arith)) ∙ (edit-drop-behind h (p .from) (p .to) outLen (take idx mid) (o .0) (o .1)
+            ∙ rw em (ap (drop outLen) (edit-take-before h idx at idx run (le-refl idx) (q .0)))));
+        behind = rw er (edit-drop-behind h (p .from) (p .to) len mid (o .0) (omega arith) ∙ rw em (edit-drop-behind h idx at len run (q .0) (q .1)));
+      }
+
+  -- THE LAW of a merge in an output that is held in the run: of any list
+  pub merged-out-within : {run′ : List (Glyph ℕ)} → run′ ≡ mergedOutput (outPlan s e (cut outLen run)) (mergedHead (outPlan s e (cut outLen run)) idx len run) → MergedOutWithin idx len outLen s e run run′
+  unfolding mergedHead mergedOutput
+  merged-out-within er = planned-out-within _ refl _ refl refl er
+
+-- ---- what the functions write
+module _ {p P : OutMerge} (ep : p ≡ P) where
+  pub output-written : (l : List (Glyph ℕ)) {l′ : List (Glyph ℕ)} → l′ ≡ edit (p .from) (p .to) (setCluster (p .lowest) 0) l → l′ ≡ mergedOutput P l
+  unfolding mergedOutput
+  output-written l er = rw (← ep) er
+
+  pub head-written : (run : List (Glyph ℕ)) (idx len : ℕ) {run′ : List (Glyph ℕ)} {at : ℕ} → at ≡ headEnd (p .head) (p .closer) idx (slice idx len (clusters run)) → run′ ≡ edit idx at (setCluster (p .lowest) 0) run
+      → run′ ≡ mergedHead P idx len run
+  unfolding mergedHead
+  head-written run idx len ea er = rw (← ep, ← ea) er
+
+module _ {run out : List (Glyph ℕ)} {idx len outLen s e : ℕ} (v : OutMergeable run out idx len outLen s e) where
+  pub out-apart-written : {run′ out′ : List (Glyph ℕ)} (p : OutMerge) → p ≡ outPlan s e (cut outLen out)
+      → (at : ℕ) → at ≡ headEnd (p .head) (p .closer) idx (slice idx len (clusters run))
+      → run′ ≡ edit idx at (setCluster (p .lowest) 0) run → out′ ≡ edit (p .from) (p .to) (setCluster (p .lowest) 0) out
+      → (run′ ≡ mergedHead (outPlan s e (cut outLen out)) idx len run) × (out′ ≡ mergedOutput (outPlan s e (cut outLen out)) out) × MergedOutApart idx len outLen s e run out run′ out′
+  out-apart-written p ep at ea er eo = (head-written ep run idx len ea er, output-written ep out eo, planned-out-apart v p ep at ea er eo)
+
+module _ {run : List (Glyph ℕ)} {idx len outLen s e : ℕ} (v : OutMergeable run run idx len outLen s e) (low : outLen ≤ idx) where
+  pub out-within-written : {mid run′ : List (Glyph ℕ)} (p : OutMerge) → p ≡ outPlan s e (cut outLen run)
+      → (at : ℕ) → at ≡ headEnd (p .head) (p .closer) idx (slice idx len (clusters run))
+      → mid ≡ edit idx at (setCluster (p .lowest) 0) run → run′ ≡ edit (p .from) (p .to) (setCluster (p .lowest) 0) mid
+      → (run′ ≡ mergedOutput (outPlan s e (cut outLen run)) (mergedHead (outPlan s e (cut outLen run)) idx len run)) × MergedOutWithin idx len outLen s e run run′
+  out-within-written p ep at ea em er = (output-written ep _ er ∙ ap (mergedOutput (outPlan s e (cut outLen run))) (head-written ep run idx len ea em), planned-out-within v low p ep at ea em er)

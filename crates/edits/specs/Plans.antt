@@ -1,0 +1,107 @@
+-- What the functions that merge say, over the glyphs of whole slices. Places count in the slices: the account counts them from `gone` on.
+use mathlib.Core.{Path._≡_, Bool.Bool, Bool.cond, Bool._&&_, List.List}
+use Prim.Native.Nat.{ℕ, _+_, _-_, _≤_, _<_}
+use lib.{ListN.length, ListN.take, ListN.drop, Seq.slice}
+use Rattle.records.specs.{Glyphs.Glyph, Glyphs.setCluster, Ranges.clusters, Ranges.edit, Ranges.is, Ranges.isnt, Ranges.least, Ranges.first, Ranges.last, Ranges.heads, Ranges.tails}
+use Rattle.lists.specs.Account.{State}
+use Rattle.edits.specs.declared.{Merge.Merge, OutMerge.OutMerge}
+use Rattle.edits.specs.Merging.{mergeStart, mergeEnd, merged, outStart, outEnd, mergedOut}
+use Rattle.edits.specs.Holding.{holds, paid, cut}
+
+-- s..e is a range of the first len glyphs of the run, which may be empty
+pub record InputRange (run out : List (Glyph ℕ)) (len outLen s e : ℕ) : Type 0 where
+  pub order : s ≤ e
+  pub end : e ≤ len
+  pub fits : len ≤ length run
+  pub out-fits : outLen ≤ length out
+
+-- ---- a merge in the input
+-- s..e is a range of the first len glyphs, and m its least cluster
+pub record MergeRange (l : List (Glyph ℕ)) (len s e m : ℕ) : Type 0 where
+  pub order : s < e
+  pub inside : e ≤ len
+  pub fits : len ≤ length l
+  pub lowest : m ≡ least (slice s e (clusters l))
+
+-- what a merge finds in the clusters of the input
+unfoldable pub mergePlan : ℕ → ℕ → ℕ → List ℕ → Merge
+mergePlan cursor s e cs =
+    let r = slice s e cs in
+    record { lowest = least r; leader = first r; from = mergeStart cursor s e cs; to = mergeEnd s e cs; tail = is cursor (mergeStart cursor s e cs) && isnt (least r) (first r) }
+
+unfoldable pub tailStart : Bool → ℕ → List ℕ → ℕ → ℕ
+tailStart b c ds n = cond b (n - tails (is c) ds) n
+
+-- the glyphs that a merge by this plan changes: in the run, and in the output
+unfoldable pub mergedRun : Merge → List (Glyph ℕ) → List (Glyph ℕ)
+mergedRun p run = edit (p .from) (p .to) (setCluster (p .lowest) 0) run
+
+unfoldable pub mergedTail : Merge → ℕ → List (Glyph ℕ) → List (Glyph ℕ)
+mergedTail p outLen out = edit (tailStart (p .tail) (p .leader) (cut outLen out) outLen) outLen (setCluster (p .lowest) 0) out
+
+-- s..e is a range of the run, of at least one glyph
+pub record Mergeable (run out : List (Glyph ℕ)) (len outLen s e : ℕ) : Type 0 where
+  pub order : s < e
+  pub end : e ≤ len
+  pub fits : len ≤ length run
+  pub out-fits : outLen ≤ length out
+
+-- the input goes from place `gone` to place `len` of the run, the cursor is at idx, and s is in the input
+pub record InputFrom (gone idx len s : ℕ) : Type 0 where
+  pub cursor : gone ≤ idx
+  pub inside : idx ≤ len
+  pub start : gone ≤ s
+
+-- the account is the merged one, and no glyph outside the lists has changed
+pub record MergedApart (gone idx len outLen s e : ℕ) (run out run′ out′ : List (Glyph ℕ)) : Type 0 where
+  pub account : (k : State) → holds run′ out′ gone idx len outLen (paid (e - s) k) ≡ merged (s - gone) (e - gone) (holds run out gone idx len outLen k)
+  pub before : take gone run′ ≡ take gone run
+  pub behind : drop len run′ ≡ drop len run
+  pub out-behind : drop outLen out′ ≡ drop outLen out
+
+pub record MergedWithin (gone idx len outLen s e : ℕ) (run run′ : List (Glyph ℕ)) : Type 0 where
+  pub account : (k : State) → holds run′ run′ gone idx len outLen (paid (e - s) k) ≡ merged (s - gone) (e - gone) (holds run run gone idx len outLen k)
+  pub between : slice outLen gone run′ ≡ slice outLen gone run
+  pub behind : drop len run′ ≡ drop len run
+
+-- ---- a merge in the output
+unfoldable pub outPlan : ℕ → ℕ → List ℕ → OutMerge
+outPlan s e ds =
+    let r = slice s e ds in
+    record { lowest = least r; closer = last r; from = outStart s e ds; to = outEnd s e ds; head = is (length ds) (outEnd s e ds) }
+
+unfoldable pub headEnd : Bool → ℕ → ℕ → List ℕ → ℕ
+headEnd b c idx cs = idx + cond b (heads (is c) cs) 0
+
+unfoldable pub mergedOutput : OutMerge → List (Glyph ℕ) → List (Glyph ℕ)
+mergedOutput p out = edit (p .from) (p .to) (setCluster (p .lowest) 0) out
+
+unfoldable pub mergedHead : OutMerge → ℕ → ℕ → List (Glyph ℕ) → List (Glyph ℕ)
+mergedHead p idx len run = edit idx (headEnd (p .head) (p .closer) idx (slice idx len (clusters run))) (setCluster (p .lowest) 0) run
+
+-- s..e is a range of the output, of at least one glyph
+pub record OutMergeable (run out : List (Glyph ℕ)) (idx len outLen s e : ℕ) : Type 0 where
+  pub order : s < e
+  pub end : e ≤ outLen
+  pub out-fits : outLen ≤ length out
+  pub inside : idx ≤ len
+  pub fits : len ≤ length run
+
+pub record MergedOutApart (idx len outLen s e : ℕ) (run out run′ out′ : List (Glyph ℕ)) : Type 0 where
+  pub account : (k : State) → holds run′ out′ idx idx len outLen (paid (e - s) k) ≡ mergedOut s e (holds run out idx idx len outLen k)
+  pub before : take idx run′ ≡ take idx run
+  pub behind : drop len run′ ≡ drop len run
+  pub out-behind : drop outLen out′ ≡ drop outLen out
+
+pub record MergedOutWithin (idx len outLen s e : ℕ) (run run′ : List (Glyph ℕ)) : Type 0 where
+  pub account : (k : State) → holds run′ run′ idx idx len outLen (paid (e - s) k) ≡ mergedOut s e (holds run run idx idx len outLen k)
+  pub between : slice outLen idx run′ ≡ slice outLen idx run
+  pub behind : drop len run′ ≡ drop len run
+
+-- ---- the outbuffer forms: from place s of the output on, up to place e of the run
+pub record OutRange (run out : List (Glyph ℕ)) (idx len outLen s e : ℕ) : Type 0 where
+  pub order : s ≤ outLen
+  pub out-fits : outLen ≤ length out
+  pub start : idx ≤ e
+  pub end : e ≤ len
+  pub fits : len ≤ length run

@@ -1,0 +1,68 @@
+// Flags over ranges of glyphs. A range ends before its end.
+ghost use mathlib.Core.Path.{_≡_};
+ghost use mathlib.Core.Bool.{_&&_, _||_};
+ghost use Prim.Native.Nat.{_≤_, _<_, min};
+ghost use lib.ListN.{length};
+ghost use lib.Seq.{slice};
+ghost use Rattle.records.specs.Ranges.{clusters, is, isnt};
+ghost use Rattle.records.specs.View.{glyphs};
+ghost use Rattle.edits.specs.Flags.{interior, sought};
+
+fn marks_all(level: u32, first: u32, last: u32, cluster: u32) -> bool
+    ensures { λ r. ⌜ r ≡ (is 2 level || (isnt cluster first && isnt cluster last)) ⌝ }
+{
+    if level == 2 {
+        return true;
+    }
+    if first == cluster {
+        return false;
+    }
+    last != cluster
+}
+
+// The interior form of a flag over a range, for a cluster that was sought.
+pub fn mark_interior(ws: &mut [u32], level: u32, cluster: u32, bits: u32, s: usize, e: usize)
+    requires { ⌜ (s < e) × (e ≤ length (glyphs (now ws))) ⌝ }
+    ensures { λ r. ⌜ glyphs (now (ws .exit)) ≡ interior level cluster bits s e (glyphs (now (ws .entry))) ⌝ }
+{
+    let first = records::glyphs::cluster_at(ws, s);
+    let last = records::glyphs::cluster_at(ws, e - 1);
+    if marks_all(level, first, last, cluster) {
+        lists::ranges::or_masks_unless(ws, s, e, cluster, bits);
+    } else {
+        if first == cluster {
+            let at = lists::ranges::other_start(ws, s, e, cluster);
+            lists::ranges::or_masks(ws, at, e, bits);
+        } else {
+            let at = lists::ranges::other_end(ws, s, e, cluster);
+            lists::ranges::or_masks(ws, s, at, bits);
+        }
+    }
+}
+
+pub fn lesser(a: u32, b: u32) -> u32
+    ensures { λ r. ⌜ r ≡ min a b ⌝ }
+{
+    if a < b { a } else { b }
+}
+
+// The cluster that a flag form seeks in a range.
+pub fn sought_cluster(ws: &[u32], level: u32, s: usize, e: usize) -> u32
+    requires { ⌜ (s < e) × (e ≤ length (glyphs (now ws))) ⌝ }
+    ensures { λ r. ⌜ r ≡ sought level (slice s e (clusters (glyphs (now (ws .entry))))) ⌝ }
+{
+    if level == 2 {
+        return lists::ranges::least_cluster(ws, s, e);
+    }
+    let first = records::glyphs::cluster_at(ws, s);
+    lesser(first, records::glyphs::cluster_at(ws, e - 1))
+}
+
+// The interior form of a flag over a range, for the cluster that it seeks there.
+pub fn flag_range(ws: &mut [u32], level: u32, bits: u32, s: usize, e: usize)
+    requires { ⌜ (s < e) × (e ≤ length (glyphs (now ws))) ⌝ }
+    ensures { λ r. ⌜ glyphs (now (ws .exit)) ≡ interior level (sought level (slice s e (clusters (glyphs (now (ws .entry)))))) bits s e (glyphs (now (ws .entry))) ⌝ }
+{
+    let m = sought_cluster(ws, level, s, e);
+    mark_interior(ws, level, m, bits, s, e);
+}
