@@ -1,3 +1,4 @@
+pub mod Acting
 pub mod Bridge
 pub mod Examples
 pub mod Executable
@@ -9,3 +10,4 @@ pub mod OutFlags
 pub mod OutMerges
 pub mod Places
 pub mod Renaming
+pub mod Writings

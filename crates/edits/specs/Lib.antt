@@ -6,3 +6,4 @@ pub mod WholeRun
 pub mod Groups
 pub mod Holding
 pub mod Plans
+pub mod Acts

@@ -49,7 +49,7 @@ in-side x r run other e = rw (same-side x (r .swapped) (sym e))
 still-lent : (b : Buffer) (f s f′ s′ : List ℕ) → sound b f s ≡ true → length f′ ≡ length f → length s′ ≡ length s → rightlyLent (length f′) (length s′) ≡ true
 still-lent b f s f′ s′ h ef es = rw (ef, es) (sound-lent b f s h)
 
-judged-sound : (call : ℕ → Account ℕ → Result ℕ) (b : Buffer) (f s : List ℕ) → sound b f s ≡ true → judged call b f s ≡ outcome (account b f s) (call (capacityOf (length f)) (account b f s))
+pub judged-sound : (call : ℕ → Account ℕ → Result ℕ) (b : Buffer) (f s : List ℕ) → sound b f s ≡ true → judged call b f s ≡ outcome (account b f s) (call (capacityOf (length f)) (account b f s))
 unfolding judged refuse_when_else_
 judged-sound call b f s h = rw h
 

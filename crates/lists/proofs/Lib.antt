@@ -1,5 +1,6 @@
 pub mod Accounts
 pub mod Calls
+pub mod Chains
 pub mod Copying
 pub mod Editing
 pub mod Examples

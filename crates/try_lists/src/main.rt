@@ -1,23 +1,11 @@
 // Drives the calls of `lists` over a run of three glyphs, and prints what each answers and leaves.
+mod expected;
+
 use lists::Buffer;
 use lists::Reply;
 use records::Answer;
 use records::DonePlace;
 use records::Glyph;
-use records::InputPlace;
-use records::Phase;
-use records::Refusal;
-
-fn number(why: Refusal) -> u64 {
-    match why {
-        Refusal::Contradiction => 1,
-        Refusal::WrongPhase => 2,
-        Refusal::OutOfRange => 3,
-        Refusal::BadOperand => 4,
-        Refusal::OverCapacity => 5,
-        Refusal::Unreadable => 6,
-    }
-}
 
 fn field(n: u64) {
     io::write_all(1, b" ");
@@ -37,7 +25,7 @@ fn shown(r: Reply) -> Buffer {
         }
         Answer::No(why) => {
             io::write_all(1, b"no");
-            field(number(why));
+            field(expected::number(why) as u64);
         }
     }
     let b = r.buffer;
@@ -73,23 +61,6 @@ fn glyph(number: u32, cluster: u32) -> Glyph {
         cluster: cluster,
         var0: 0,
         var1: 0,
-    }
-}
-
-// A plain run of three glyphs, with room for six.
-fn start() -> Buffer {
-    let mut limits = records::counters::fresh();
-    limits.allocated = 6;
-    Buffer {
-        idx: InputPlace(0),
-        len: InputPlace(3),
-        out_len: DonePlace(0),
-        phase: Phase::Plain,
-        limits: limits,
-        level: 0,
-        wants: 0,
-        swapped: false,
-        have_separate_output: false,
     }
 }
 
@@ -153,18 +124,19 @@ fn fill(ws: &mut [u32], a: u32, b: u32, c: u32) {
 }
 
 fn main() {
+    expected::expected();
     let mut first = [0u32; 30];
     let mut second = [7u32; 30];
     let short = [0u32; 25];
     fill(&mut first, 64, 65, 66);
-    let b = within(start(), &mut first, &mut second);
+    let b = within(expected::start(), &mut first, &mut second);
     fill(&mut first, 64, 65, 66);
     fill(&mut second, 96, 97, 98);
-    let b = across(start(), &mut first, &mut second);
+    let b = across(expected::start(), &mut first, &mut second);
     print_glyphs(&first);
     print_glyphs(&second);
-    let b = plain(start(), &mut first, &mut second);
+    let b = plain(expected::start(), &mut first, &mut second);
     print_glyphs(&first);
     print_glyphs(&second);
-    let b = shown(lists::cursor::enter(start(), &first, &short));
+    let b = shown(lists::cursor::enter(expected::start(), &first, &short));
 }

@@ -1,0 +1,43 @@
+-- What the functions below the exported edits ask for and do.
+use mathlib.Core.{Path._≡_, Bool.true, Bool.false, List.List, List.[], List._∷_}
+use Prim.Native.Nat.{ℕ, _+_, _≤_}
+use lib.{ListN.length, ListN.take}
+use Rattle.records.specs.{Glyphs.Info, Ranges.copies, View.wordsFrom}
+use Rattle.lists.specs.declared.{Buffer.Buffer}
+use Rattle.lists.specs.{Account.Account, Account.outputPhase, Account.outLen, Account.sized, Results.Result, Cursor.dropping, State.accountOf, State.Held}
+use Rattle.edits.specs.Writing.{written, writing}
+
+-- h on the account, nothing beyond the allocated size. Limits may change, the size does not
+pub record Acts (h : Account ℕ → Account ℕ) (b : Buffer) (run other : List ℕ) (r : Buffer) (run′ other′ : List ℕ) : Type 0 where
+  pub is : accountOf r run′ other′ ≡ h (accountOf b run other)
+  pub size : r .limits .allocated ≡ b .limits .allocated
+  pub side : r .swapped ≡ b .swapped
+  pub run-beyond : wordsFrom (b .limits .allocated) run′ ≡ wordsFrom (b .limits .allocated) run
+  pub other-beyond : wordsFrom (b .limits .allocated) other′ ≡ wordsFrom (b .limits .allocated) other
+  pub held : Held r run other
+
+-- the size for num-out glyphs is there, in place of num-in of the input
+pub record Roomy (b : Buffer) (num-in num-out : ℕ) (run other : List ℕ) : Type 0 where
+  pub held : Held b run other
+  pub output : outputPhase (b .phase) ≡ true
+  pub in-len : b .idx .0 + num-in ≤ b .len .0
+  pub in-size : b .«out_len» .0 + num-out ≤ b .limits .allocated
+
+-- and they do not overtake the cursor
+pub record Writable (b : Buffer) (num-in num-out : ℕ) (run other : List ℕ) : Type 0 where
+  pub roomy : Roomy b num-in num-out run other
+  pub behind : b .«have_separate_output» ≡ false → b .«out_len» .0 + num-out ≤ b .idx .0 + num-in
+
+-- the output may have moved to the other slice; the account does not see it
+pub record Parted (b : Buffer) (num-in num-out : ℕ) (run other : List ℕ) (r : Buffer) (other′ : List ℕ) : Type 0 where
+  pub acts : Acts (λ a. a) b run other r run other′
+  pub places : (r .idx ≡ b .idx) × (r .len ≡ b .len) × (r .«out_len» ≡ b .«out_len») × (r .phase ≡ b .phase) × (r .limits ≡ b .limits) × (r .level ≡ b .level)
+  pub behind : r .«have_separate_output» ≡ false → b .«out_len» .0 + num-out ≤ b .idx .0 + num-in
+
+-- copies with these words and numbers, in place of num-in of the input
+unfoldable pub replacing : Info → List ℕ → ℕ → Account ℕ → Account ℕ
+replacing i gs num-in a = dropping num-in (written (copies i gs) a)
+
+-- one glyph written, after its size
+unfoldable pub writesOne : Info → ℕ → ℕ → Account ℕ → Result ℕ
+writesOne i number capacity a = writing capacity 1 (written (copies i (number ∷ [])) (sized (outLen a + 1) a)) a

@@ -1,0 +1,164 @@
+-- The account of the run is followed from call to call; each answer is computed from it.
+use borrow.Author.Needs.{needs}
+use borrow.Author.Tests.{eq-eqb}
+use mathlib.Core.{Path._≡_, Path.refl, Path.ap, Path._∙_}
+use Rattle.lists.proofs.{Chains.At, Chains.answers, Chains.leaves}
+use Rattle.try_lists.specs.Codes.{codeOf}
+use Rattle.try_lists.proofs.Run.{zeros, a₁, a₂, a₃, a₄, a₅, at-start, far-code, there-code, back-code, synced-code, again-code}
+use Rattle.try_lists.proofs.expected.expected.Statement.{statement}
+use Rattle.try_lists.proofs.expected.expected.Tie as tie
+
+opened : (c : tie.After-clear-output) → At 6 a₁ (c .clear-output .result .buffer) zeros zeros
+unfolding a₁
+opened c = leaves (c .clear-output .ensures) (at-start (c .before .before .before .start .ensures)) refl
+
+far : (c : tie.After-next-glyphs) → At 6 a₂ (c .next-glyphs .result .buffer) (c .next-glyphs .last .1 .0) (c .next-glyphs .last .1 .1 .0)
+unfolding a₂
+far c = leaves (c .next-glyphs .ensures) (opened (c .before .before .before)) (c .next-glyphs .kept .1 .0)
+
+there : (c : tie.After-next-glyphs2) → At 6 a₃ (c .next-glyphs2 .result .buffer) (c .next-glyphs2 .last .1 .0) (c .next-glyphs2 .last .1 .1 .0)
+unfolding a₃
+there c = leaves (c .next-glyphs2 .ensures) (far (c .before .before .before .before .before .before .before)) (c .next-glyphs2 .kept .1 .0)
+
+back : (c : tie.After-move-to) → At 6 a₄ (c .move-to .result .buffer) (c .move-to .last .1 .0) (c .move-to .last .1 .1 .0)
+unfolding a₄
+back c = leaves (c .move-to .ensures) (there (c .before .before .before .before .before .before .before)) (c .move-to .kept .1 .0)
+
+synced : (c : tie.After-sync) → At 6 a₅ (c .sync .result .buffer) (c .sync .last .1 .0) (c .sync .last .1 .1 .0)
+unfolding a₅
+synced c = leaves (c .sync .ensures) (back (c .before .before .before .before .before .before .before)) (c .sync .kept .1 .0)
+
+start-requires : tie.Need-start-requires
+start-requires c κs = search needs
+
+slice-aggregate-clear-output : tie.Need-slice-aggregate-clear-output
+slice-aggregate-clear-output c = search needs
+
+slice-aggregate-clear-output-2 : tie.Need-slice-aggregate-clear-output-2
+slice-aggregate-clear-output-2 c = search needs
+
+clear-output-requires : tie.Need-clear-output-requires
+clear-output-requires c κs = search needs
+
+slice-aggregate-next-glyphs : tie.Need-slice-aggregate-next-glyphs
+slice-aggregate-next-glyphs c = search needs
+
+slice-aggregate-next-glyphs-2 : tie.Need-slice-aggregate-next-glyphs-2
+slice-aggregate-next-glyphs-2 c = search needs
+
+next-glyphs-requires : tie.Need-next-glyphs-requires
+next-glyphs-requires c κs = search needs
+
+code-requires : tie.Need-code-requires
+code-requires c κs = search needs
+
+expect-requires : tie.Need-expect-requires
+expect-requires c κs =
+    let at-call = c .before .before .before in
+    eq-eqb (c .code .result) 5 (c .code .ensures ∙ ap codeOf (answers (at-call .next-glyphs .ensures) (opened (at-call .before .before .before))) ∙ far-code)
+
+slice-aggregate-next-glyphs-3 : tie.Need-slice-aggregate-next-glyphs-3
+slice-aggregate-next-glyphs-3 c = search needs
+
+slice-aggregate-next-glyphs-4 : tie.Need-slice-aggregate-next-glyphs-4
+slice-aggregate-next-glyphs-4 c = search needs
+
+next-glyphs-requires-2 : tie.Need-next-glyphs-requires-2
+next-glyphs-requires-2 c κs = search needs
+
+code-requires-2 : tie.Need-code-requires-2
+code-requires-2 c κs = search needs
+
+expect-requires-2 : tie.Need-expect-requires-2
+expect-requires-2 c κs =
+    let at-call = c .before .before .before in
+    eq-eqb (c .code2 .result) 2 (c .code2 .ensures ∙ ap codeOf (answers (at-call .next-glyphs2 .ensures) (far (at-call .before .before .before .before .before .before .before))) ∙ there-code)
+
+slice-aggregate-move-to : tie.Need-slice-aggregate-move-to
+slice-aggregate-move-to c = search needs
+
+slice-aggregate-move-to-2 : tie.Need-slice-aggregate-move-to-2
+slice-aggregate-move-to-2 c = search needs
+
+move-to-requires : tie.Need-move-to-requires
+move-to-requires c κs = search needs
+
+code-requires-3 : tie.Need-code-requires-3
+code-requires-3 c κs = search needs
+
+expect-requires-3 : tie.Need-expect-requires-3
+expect-requires-3 c κs =
+    let at-call = c .before .before .before in
+    eq-eqb (c .code3 .result) 1 (c .code3 .ensures ∙ ap codeOf (answers (at-call .move-to .ensures) (there (at-call .before .before .before .before .before .before .before))) ∙ back-code)
+
+slice-aggregate-sync : tie.Need-slice-aggregate-sync
+slice-aggregate-sync c = search needs
+
+slice-aggregate-sync-2 : tie.Need-slice-aggregate-sync-2
+slice-aggregate-sync-2 c = search needs
+
+sync-requires : tie.Need-sync-requires
+sync-requires c κs = search needs
+
+code-requires-4 : tie.Need-code-requires-4
+code-requires-4 c κs = search needs
+
+expect-requires-4 : tie.Need-expect-requires-4
+expect-requires-4 c κs =
+    let at-call = c .before .before .before in
+    eq-eqb (c .code4 .result) 1 (c .code4 .ensures ∙ ap codeOf (answers (at-call .sync .ensures) (back (at-call .before .before .before .before .before .before .before))) ∙ synced-code)
+
+slice-aggregate-sync-3 : tie.Need-slice-aggregate-sync-3
+slice-aggregate-sync-3 c = search needs
+
+slice-aggregate-sync-4 : tie.Need-slice-aggregate-sync-4
+slice-aggregate-sync-4 c = search needs
+
+sync-requires-2 : tie.Need-sync-requires-2
+sync-requires-2 c κs = search needs
+
+code-requires-5 : tie.Need-code-requires-5
+code-requires-5 c κs = search needs
+
+expect-requires-5 : tie.Need-expect-requires-5
+expect-requires-5 c κs =
+    let at-call = c .before .before .before in
+    eq-eqb (c .code5 .result) 4 (c .code5 .ensures ∙ ap codeOf (answers (at-call .sync2 .ensures) (synced (at-call .before .before .before .before .before .before .before))) ∙ again-code)
+
+returns : tie.Need-returns
+returns c = search needs
+
+pub expected-spec : {M : Type 1} → statement M
+expected-spec =
+    tie.close
+    (tie.spec
+    start-requires
+    slice-aggregate-clear-output
+    slice-aggregate-clear-output-2
+    clear-output-requires
+    slice-aggregate-next-glyphs
+    slice-aggregate-next-glyphs-2
+    next-glyphs-requires
+    code-requires
+    expect-requires
+    slice-aggregate-next-glyphs-3
+    slice-aggregate-next-glyphs-4
+    next-glyphs-requires-2
+    code-requires-2
+    expect-requires-2
+    slice-aggregate-move-to
+    slice-aggregate-move-to-2
+    move-to-requires
+    code-requires-3
+    expect-requires-3
+    slice-aggregate-sync
+    slice-aggregate-sync-2
+    sync-requires
+    code-requires-4
+    expect-requires-4
+    slice-aggregate-sync-3
+    slice-aggregate-sync-4
+    sync-requires-2
+    code-requires-5
+    expect-requires-5
+    returns)
