@@ -61,10 +61,10 @@ module _ {at n : ℕ} {w : Info} {gs : List ℕ} where
       rw e at (v .is)
 
 -- ---- the account of a buffer with output
-abbrev output : Buffer → ℕ → (done rest : List (Glyph ℕ)) → Account ℕ
+abbrev pub output : Buffer → ℕ → (done rest : List (Glyph ℕ)) → Account ℕ
 output b i D R = record { done = D; passed = []; rest = R; state = record { phase = b .phase; gone = i; limits = b .limits; level = b .level; wants = b .wants } }
 
-output-cong : (b : Buffer) {i j : ℕ} {D E R S : List (Glyph ℕ)} → i ≡ j → D ≡ E → R ≡ S → output b i D R ≡ output b j E S
+pub output-cong : (b : Buffer) {i j : ℕ} {D E R S : List (Glyph ℕ)} → i ≡ j → D ≡ E → R ≡ S → output b i D R ≡ output b j E S
 output-cong b ei ed er = λ k. output b (ei k) (ed k) (er k)
 
 pub shown-output : (p : Phase) (run other : List ℕ) → outputPhase p ≡ true → shown p run other ≡ glyphs run
@@ -99,13 +99,13 @@ output-places b i l o run other h =
       state = record { phase = b .phase; gone = g k; limits = b .limits; level = b .level; wants = b .wants };
     }
 
-output-account : (b : Buffer) (run other : List ℕ) → outputPhase (b .phase) ≡ true
+pub output-account : (b : Buffer) (run other : List ℕ) → outputPhase (b .phase) ≡ true
     → accountOf b run other ≡ output b (b .idx .0) (take (b .«out_len» .0) (cond (b .«have_separate_output») (glyphs other) (glyphs run))) (slice (b .idx .0) (b .len .0) (glyphs run))
 unfolding atPlaces
 output-account b run other h = output-places b (b .idx .0) (b .len .0) (b .«out_len» .0) run other h
 
 -- the words from n on, of a slice that has whole glyphs
-beyond : (n : ℕ) (ws ws′ : List ℕ) → Whole ws → length ws′ ≡ length ws → drop n (glyphs ws′) ≡ drop n (glyphs ws) → wordsFrom n ws′ ≡ wordsFrom n ws
+pub beyond : (n : ℕ) (ws ws′ : List ℕ) → Whole ws → length ws′ ≡ length ws → drop n (glyphs ws′) ≡ drop n (glyphs ws) → wordsFrom n ws′ ≡ wordsFrom n ws
 beyond n ws ws′ w l e = sym (beyond-glyphs n ws ws′ w (sym l) (sym e))
 
 -- ---- the output goes to the other slice, or need not

@@ -14,7 +14,7 @@ use Rattle.lists.proofs.{Runs.heads-le, Runs.tails-le, Editing.edit-empty, Edit
 use Rattle.edits.specs.Flags.{interior, sought, flagInterior, flagAll}
 use Rattle.edits.specs.Holding.{holds, cut}
 use Rattle.edits.specs.Plans.{InputRange, InputFrom}
-use Rattle.edits.proofs.Merges.{first-slice, last-slice}
+use Rattle.edits.proofs.MergePlans.{first-slice, last-slice}
 use Rattle.edits.proofs.Holding.{slice-take, slice-shift, clusters-take, clusters-drop, edit-take-before, edit-drop-behind}
 use Rattle.edits.proofs.Bridge.{input-is, holds-input, input-edit}
 

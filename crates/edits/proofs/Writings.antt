@@ -15,7 +15,7 @@ use Rattle.edits.proofs.Acting.{shown-output}
 
 -- ---- other limits
 module _ (b : Buffer) (run other : List ℕ) where
-  limits-side : (l : Limits) → (withLimitsOf l b) .swapped ≡ b .swapped
+  pub limits-side : (l : Limits) → (withLimitsOf l b) .swapped ≡ b .swapped
   unfolding withLimitsOf
   limits-side l = refl
 
@@ -23,7 +23,7 @@ module _ (b : Buffer) (run other : List ℕ) where
   unfolding failing
   failing-of = limited-of b run other failed
 
-  sized-of : (n : ℕ) → accountOf (withLimitsOf (grown n (b .limits)) b) run other ≡ sized n (accountOf b run other)
+  pub sized-of : (n : ℕ) → accountOf (withLimitsOf (grown n (b .limits)) b) run other ≡ sized n (accountOf b run other)
   unfolding sized
   sized-of n = limited-of b run other (grown n)
 
@@ -72,7 +72,7 @@ module _ {b : Buffer} {run other : List ℕ} (v : SyncOutput b run other) (n : �
 
 -- ---- the size, and what may be written then
 module _ {b : Buffer} {run other : List ℕ} (v : SyncOutput b run other) where
-  out-size : (a : Account ℕ) → a ≡ accountOf b run other → (n : ℕ) → sized (outLen a + n) a ≡ sized (b .«out_len» .0 + n) (accountOf b run other)
+  pub out-size : (a : Account ℕ) → a ≡ accountOf b run other → (n : ℕ) → sized (outLen a + n) a ≡ sized (b .«out_len» .0 + n) (accountOf b run other)
   out-size a e n = ap (λ (k : Account ℕ). sized (outLen k + n) k) e ∙ ap (λ (k : ℕ). sized (k + n) (accountOf b run other)) (out-of b run other (v .held))
 
   -- only the size is made
@@ -146,10 +146,10 @@ module _ {b : Buffer} {run other : List ℕ} (v : Held b run other) (o : outputP
   unfolding accountOf
   rest-is = ap (slice (b .idx .0) (b .len .0)) (shown-output (b .phase) run other o)
 
-  rest-first : b .idx .0 < b .len .0 → (accountOf b run other) .rest ≡ getD (glyphs run) (b .idx .0) zeroGlyph ∷ slice (suc (b .idx .0)) (b .len .0) (glyphs run)
+  pub rest-first : b .idx .0 < b .len .0 → (accountOf b run other) .rest ≡ getD (glyphs run) (b .idx .0) zeroGlyph ∷ slice (suc (b .idx .0)) (b .len .0) (glyphs run)
   rest-first h = rest-is ∙ slice-cons (b .idx .0) (b .len .0) (glyphs run) zeroGlyph h (omega (arith, v .len-in, v .all-in))
 
-  rest-length : length ((accountOf b run other) .rest) ≡ b .len .0 - b .idx .0
+  pub rest-length : length ((accountOf b run other) .rest) ≡ b .len .0 - b .idx .0
   rest-length = rest-of b run other v (output-clean (b .phase) o)
 
   rest-none : b .len .0 ≤ b .idx .0 → (accountOf b run other) .rest ≡ []
@@ -160,10 +160,10 @@ module _ {b : Buffer} {run other : List ℕ} (v : Held b run other) (o : outputP
   all-length : length ((accountOf b run other) .rest) + outLen (accountOf b run other) ≡ b .len .0 - b .idx .0 + b .«out_len» .0
   all-length = omega (arith, rest-length, out-of b run other v)
 
-  rest-short : b .len .0 ≤ b .idx .0 → ltb (length ((accountOf b run other) .rest)) 1 ≡ true
+  pub rest-short : b .len .0 ≤ b .idx .0 → ltb (length ((accountOf b run other) .rest)) 1 ≡ true
   rest-short h = lt-ltb (length ((accountOf b run other) .rest)) 1 (omega (arith, rest-length))
 
-  rest-long : b .idx .0 < b .len .0 → ltb (length ((accountOf b run other) .rest)) 1 ≡ false
+  pub rest-long : b .idx .0 < b .len .0 → ltb (length ((accountOf b run other) .rest)) 1 ≡ false
   rest-long h = le-ltb (length ((accountOf b run other) .rest)) 1 (omega (arith, rest-length))
 
   all-some : 0 < b .len .0 - b .idx .0 + b .«out_len» .0 → eqb (length ((accountOf b run other) .rest) + outLen (accountOf b run other)) 0 ≡ false
@@ -180,7 +180,7 @@ module _ {b : Buffer} {run other : List ℕ} (v : Held b run other) (o : outputP
   pub last-room : 0 < b .«out_len» .0 → (1 ≤ b .«out_len» .0) × (b .«out_len» .0 ≤ length (glyphs run)) × (b .«out_len» .0 ≤ length (glyphs other))
   last-room h = (omega arith, out-fits false, out-fits true)
 
-  done-last : 0 < b .«out_len» .0
+  pub done-last : 0 < b .«out_len» .0
       → (accountOf b run other) .done ≡ take (b .«out_len» .0 - 1) (cond (b .«have_separate_output») (glyphs other) (glyphs run)) ++ (getD (cond (b .«have_separate_output») (glyphs other) (glyphs run)) (b .«out_len» .0 - 1) zeroGlyph ∷ [])
   unfolding accountOf
   done-last h =
@@ -202,7 +202,7 @@ one-copy g = refl
 
 -- ---- the model of the copies
 module _ (a : Account ℕ) where
-  model-rest : (x : Glyph ℕ) (l : List (Glyph ℕ)) → a .rest ≡ x ∷ l → model a ≡ x .info
+  pub model-rest : (x : Glyph ℕ) (l : List (Glyph ℕ)) → a .rest ≡ x ∷ l → model a ≡ x .info
   unfolding model infos
   model-rest x l e = ap (λ (r : List (Glyph ℕ)). getD (infos r ++ reverse (infos (a .done))) 0 (blank 0)) e
 

@@ -4,7 +4,7 @@ use Prim.Native.Nat.{ℕ, _+_, _≤_}
 use lib.{ListN.length, ListN.take}
 use Rattle.records.specs.{Glyphs.Info, Ranges.copies, View.wordsFrom}
 use Rattle.lists.specs.declared.{Buffer.Buffer}
-use Rattle.lists.specs.{Account.Account, Account.outputPhase, Account.outLen, Account.sized, Results.Result, Cursor.dropping, State.accountOf, State.Held}
+use Rattle.lists.specs.{Account.Account, Account.outputPhase, Account.spoiledPhase, Account.outLen, Account.sized, Results.Result, Cursor.dropping, State.accountOf, State.Held, State.goneOf}
 use Rattle.edits.specs.Writing.{written, writing}
 
 -- h on the account, nothing beyond the allocated size. Limits may change, the size does not
@@ -41,3 +41,18 @@ replacing i gs num-in a = dropping num-in (written (copies i gs) a)
 -- one glyph written, after its size
 unfoldable pub writesOne : Info → ℕ → ℕ → Account ℕ → Result ℕ
 writesOne i number capacity a = writing capacity 1 (written (copies i (number ∷ [])) (sized (outLen a + 1) a)) a
+
+-- s..e is a range of the input, in a phase that has lists
+pub record Mergeful (b : Buffer) (s e : ℕ) (run other : List ℕ) : Type 0 where
+  pub held : Held b run other
+  pub whole : spoiledPhase (b .phase) ≡ false
+  pub start : goneOf b ≤ s
+  pub order : s ≤ e
+  pub end : e ≤ b .len .0
+
+-- s..e is a range of the output
+pub record OutMergeful (b : Buffer) (s e : ℕ) (run other : List ℕ) : Type 0 where
+  pub held : Held b run other
+  pub output : outputPhase (b .phase) ≡ true
+  pub order : s ≤ e
+  pub end : e ≤ b .«out_len» .0

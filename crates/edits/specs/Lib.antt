@@ -1,6 +1,8 @@
 pub mod Writing
 pub mod Merging
+pub mod Replaces
 pub mod Deleting
+pub mod Deletes
 pub mod Flags
 pub mod WholeRun
 pub mod Groups

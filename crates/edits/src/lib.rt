@@ -1,6 +1,9 @@
 // Edits of the shaping buffer. The account of writing, merging, deleting, flags and the whole run stands in specs/.
+pub mod deleting;
 pub mod flags;
+pub mod merges;
 pub mod merging;
+pub mod replacing;
 pub mod writing;
 
 // What a merge of a range changes: m, the cluster of the range's first glyph, the range as it grew, and whether the

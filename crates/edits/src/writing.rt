@@ -42,7 +42,13 @@ fn put_copies(ws: &mut [u32], at: usize, g: Glyph, numbers: &[u32], n: usize)
 }
 
 // The output moves to the other slice where it would overtake the cursor.
-fn make_room_for(b: Buffer, run: &[u32], other: &mut [u32], num_in: usize, num_out: usize) -> Buffer
+pub fn make_room_for(
+    b: Buffer,
+    run: &[u32],
+    other: &mut [u32],
+    num_in: usize,
+    num_out: usize,
+) -> Buffer
     requires { ⌜ Roomy b «num_in» «num_out» (now run) (now other) ⌝ }
     ensures { λ r. ⌜ Parted b «num_in» «num_out» (now (run .entry)) (now (other .entry)) r (now (other .exit)) ⌝ }
 {
@@ -58,7 +64,7 @@ fn make_room_for(b: Buffer, run: &[u32], other: &mut [u32], num_in: usize, num_o
 }
 
 // Copies of g under the first num_out numbers go behind the output, in place of num_in glyphs of the input.
-fn write_copies(
+pub fn write_copies(
     b: Buffer,
     run: &mut [u32],
     other: &mut [u32],
@@ -152,7 +158,7 @@ pub fn output_info(b: Buffer, first: &mut [u32], second: &mut [u32], g: Glyph) -
 }
 
 // The last glyph of the output, in whichever slice it lies.
-fn last_done(run: &[u32], other: &[u32], separate: bool, out_len: usize) -> Glyph
+pub fn last_done(run: &[u32], other: &[u32], separate: bool, out_len: usize) -> Glyph
     requires { ⌜ (1 ≤ «out_len») × («out_len» ≤ length (glyphs (now run))) × («out_len» ≤ length (glyphs (now other))) ⌝ }
     ensures { λ r. ⌜ seen r ≡ getD (cond separate (glyphs (now (other .entry))) (glyphs (now (run .entry)))) («out_len» - 1) zeroGlyph ⌝ }
 {

@@ -1,4 +1,4 @@
-use Rattle.edits.proofs.Merges.{end-same, end-more}
+use Rattle.edits.proofs.MergePlans.{end-same, end-more}
 use borrow.Author.Needs.{needs}
 use Rattle.edits.proofs.merging.merge_end.Statement.{statement}
 use Rattle.edits.proofs.merging.merge_end.Tie as tie

@@ -1,4 +1,4 @@
-use Rattle.edits.proofs.Merges.{start-same, start-more}
+use Rattle.edits.proofs.MergePlans.{start-same, start-more}
 use borrow.Author.Needs.{needs}
 use Rattle.edits.proofs.merging.merge_start.Statement.{statement}
 use Rattle.edits.proofs.merging.merge_start.Tie as tie

@@ -1,4 +1,4 @@
-use Rattle.edits.proofs.Merges.{planned}
+use Rattle.edits.proofs.MergePlans.{planned}
 use borrow.Author.Needs.{needs}
 use Rattle.edits.proofs.merging.plan_merge.Statement.{statement}
 use Rattle.edits.proofs.merging.plan_merge.Tie as tie

@@ -1,0 +1,342 @@
+-- Merges of a buffer's lists: from what the slice workers leave to the account.
+use mathlib.Core.{Path._≡_, Path.refl, Path.sym, Path.ap, Path._∙_, Path.subst, Bool.Bool, Bool.true, Bool.false, Bool.cond, Bool._&&_, Bool._||_, Bool.false≢true, List.List}
+use Prim.Native.Nat.{ℕ, _-_, _≤_, _<_}
+use native.Mathlib.Omega.{arith}
+use borrow.Author.Tests.{le-ltb, lt-ltb, ltb-false, eq-eqb, ne-eqb}
+use lib.{Dec.eqb, Dec.ltb, ListN.length, ListN.take, ListN.drop, Seq.slice}
+use Rattle.records.specs.{Phase, Plain, Output, Positions, Spoiled, InputPlace, WrongPhase, OutOfRange, Done, No, Limits, Glyphs.Glyph, Counters.costs, Ranges.clusters, View.glyphs, View.placements, View.wordsFrom}
+use Rattle.records.proofs.View.{glyphs-same, whole-same, beyond-glyphs}
+use Rattle.lists.specs.declared.{Buffer.Buffer, Reply.Reply}
+use Rattle.lists.specs.{Account.Account, Account.State, Account.outputPhase, Account.spoiledPhase, Account.isSpoiled, Account.withLimits, Contract.MeetsIn, Results.refused, Results.accepted, Results.refuse_when_else_, State.shown, State.goneOf, State.stateOf, State.accountOf, State.Held, States.reply, States.withLimitsOf}
+use Rattle.lists.proofs.{Accounts.spoiled-of, Accounts.len-of, Calls.in-refused, Calls.in-accepted, Calls.in-call}
+use Rattle.edits.specs.{Acts.Acts, Acts.Mergeful, Flags.interior, Flags.sought, Flags.flagInterior, Holding.holds, Holding.paid, Holding.cut, Merging.merge, Merging.merged, Merging.graphemesMerge, Merging.mergeInput, Merging.outsideInput, Plans.InputRange, Plans.InputFrom, Plans.Mergeable, Plans.MergedApart, Plans.MergedWithin, Plans.mergePlan, Plans.mergedRun, Plans.mergedTail}
+use Rattle.edits.proofs.MergeLaws.{mergeable, merged-within}
+use Rattle.edits.proofs.FlagLaws.{flagged-held, flagged-within, interior-behind}
+use Rattle.edits.proofs.Places.{paired-within, paired-flagged}
+use Rattle.edits.proofs.Holding.{behind-further}
+use Rattle.edits.proofs.Acting.{shown-output}
+
+-- ---- the account of a buffer is that of its lists
+none-taken : {A : Type 0} (n : ℕ) (x y : List A) → n ≡ 0 → take n x ≡ take n y
+none-taken n x y e = ap (λ (k : ℕ). take k x) e ∙ sym (ap (λ (k : ℕ). take k y) e)
+
+-- what `goneOf` says of a phase
+abbrev pub goneIn : Phase → ℕ → ℕ → ℕ
+goneIn p i l = elim p [ Plain ↦ 0 | Output ↦ i | Positions ↦ 0 | Spoiled ↦ l ]
+
+gone-before : (p : Phase) (i l : ℕ) → spoiledPhase p ≡ false → goneIn p i l ≤ i
+gone-before Plain i l h = omega arith
+gone-before Output i l h = omega arith
+gone-before Positions i l h = omega arith
+gone-before Spoiled i l h = absurd (false≢true (sym h))
+
+out-before : (p : Phase) (apart : Bool) (i l o : ℕ) → (outputPhase p && apart) ≡ false → (outputPhase p ≡ true → apart ≡ false → o ≤ i) → (outputPhase p ≡ false → o ≡ 0) → o ≤ goneIn p i l
+out-before Plain apart i l o h b n = let z : o ≡ 0 = n refl in omega arith
+out-before Output true i l o h b n = absurd (false≢true (sym h))
+out-before Output false i l o h b n = b refl refl
+out-before Positions apart i l o h b n = let z : o ≡ 0 = n refl in omega arith
+out-before Spoiled apart i l o h b n = let z : o ≡ 0 = n refl in omega arith
+
+within-done : (p : Phase) (apart : Bool) (o : ℕ) (run other : List ℕ) → (outputPhase p && apart) ≡ false → (outputPhase p ≡ false → o ≡ 0)
+    → take o (cond apart (glyphs other) (glyphs run)) ≡ take o (shown p run other)
+unfolding shown
+within-done Plain apart o run other h n = none-taken o _ _ (n refl)
+within-done Output true o run other h n = absurd (false≢true (sym h))
+within-done Output false o run other h n = refl
+within-done Positions apart o run other h n = none-taken o _ _ (n refl)
+within-done Spoiled apart o run other h n = none-taken o _ _ (n refl)
+
+both-left : (x y : Bool) → (x && y) ≡ true → x ≡ true
+both-left true y h = refl
+both-left false y h = absurd (false≢true h)
+
+both-right : (x y : Bool) → (x && y) ≡ true → y ≡ true
+both-right true y h = h
+both-right false y h = absurd (false≢true h)
+
+module _ (b : Buffer) (l : Limits) (run other : List ℕ) where
+  account-held : accountOf (withLimitsOf l b) run other ≡ holds (shown (b .phase) run other) (cond (b .«have_separate_output») (glyphs other) (glyphs run)) (goneOf b) (b .idx .0) (b .len .0) (b .«out_len» .0) (withLimits l (stateOf b))
+  unfolding accountOf withLimitsOf holds withLimits stateOf goneOf
+  account-held = refl
+
+  pub account-apart : (outputPhase (b .phase) && b .«have_separate_output») ≡ true
+      → accountOf (withLimitsOf l b) run other ≡ holds (glyphs run) (glyphs other) (goneOf b) (b .idx .0) (b .len .0) (b .«out_len» .0) (withLimits l (stateOf b))
+  account-apart h =
+      let o : outputPhase (b .phase) ≡ true = both-left (outputPhase (b .phase)) (b .«have_separate_output») h in
+      let a : b .«have_separate_output» ≡ true = both-right (outputPhase (b .phase)) (b .«have_separate_output») h in
+      account-held
+      ∙ (ap (λ (x : List (Glyph ℕ)). holds x (cond (b .«have_separate_output») (glyphs other) (glyphs run)) (goneOf b) (b .idx .0) (b .len .0) (b .«out_len» .0) (withLimits l (stateOf b))) (shown-output (b .phase) run other o)
+      ∙ ap (λ (x : Bool). holds (glyphs run) (cond x (glyphs other) (glyphs run)) (goneOf b) (b .idx .0) (b .len .0) (b .«out_len» .0) (withLimits l (stateOf b))) a)
+
+  held-done : (r x y : List (Glyph ℕ)) → take (b .«out_len» .0) x ≡ take (b .«out_len» .0) y
+      → holds r x (goneOf b) (b .idx .0) (b .len .0) (b .«out_len» .0) (withLimits l (stateOf b)) ≡ holds r y (goneOf b) (b .idx .0) (b .len .0) (b .«out_len» .0) (withLimits l (stateOf b))
+  unfolding holds
+  held-done r x y e = rw e
+
+  pub account-within : (outputPhase (b .phase) && b .«have_separate_output») ≡ false → (outputPhase (b .phase) ≡ false → b .«out_len» .0 ≡ 0)
+      → accountOf (withLimitsOf l b) run other ≡ holds (shown (b .phase) run other) (shown (b .phase) run other) (goneOf b) (b .idx .0) (b .len .0) (b .«out_len» .0) (withLimits l (stateOf b))
+  account-within h n = account-held ∙ held-done _ _ _ (within-done (b .phase) (b .«have_separate_output») (b .«out_len» .0) run other h n)
+
+-- ---- in each phase that has lists
+module _ (run run′ other : List ℕ) {gone idx len outLen s e : ℕ} (w : InputFrom gone idx len s) (low : outLen ≤ gone) where
+  shown-merged : (p : Phase) → spoiledPhase p ≡ false → Mergeable (glyphs run) (glyphs run) len outLen s e
+      → glyphs run′ ≡ mergedRun (mergePlan idx s e (cut len (glyphs run))) (mergedTail (mergePlan idx s e (cut len (glyphs run))) outLen (glyphs run)) → MergedWithin gone idx len outLen s e (shown p run other) (shown p run′ other)
+  unfolding shown
+  shown-merged Plain h v er = merged-within v w low er
+  shown-merged Output h v er = merged-within v w low er
+  shown-merged Positions h v er = paired-within v (placements other) w low er
+  shown-merged Spoiled h v er = absurd (false≢true (sym h))
+
+  shown-flagged : (p : Phase) → spoiledPhase p ≡ false → InputRange (glyphs run) (glyphs run) len outLen s e → (bits : ℕ) (k : State) (level : ℕ) → 2 ≤ e - s → k .level ≡ level
+      → glyphs run′ ≡ interior level (sought level (slice s e (clusters (glyphs run)))) bits s e (glyphs run)
+      → holds (shown p run′ other) (shown p run′ other) gone idx len outLen k ≡ flagInterior bits (s - gone) (e - gone) (holds (shown p run other) (shown p run other) gone idx len outLen k)
+  unfolding shown
+  shown-flagged Plain h v bits k level two el er = flagged-within v w low bits k level two el er
+  shown-flagged Output h v bits k level two el er = flagged-within v w low bits k level two el er
+  shown-flagged Positions h v bits k level two el er = paired-flagged v (placements other) w low bits k level two el er
+  shown-flagged Spoiled h v bits k level two el er = absurd (false≢true (sym h))
+
+-- ---- from the glyphs to what a function leaves
+module _ {b : Buffer} {run other : List ℕ} (v : Held b run other) where
+  held-paid : (n : ℕ) → Held (withLimitsOf (costs n (b .limits)) b) run other
+  unfolding withLimitsOf costs
+  held-paid n = record { idx-in = v .idx-in; len-in = v .len-in; out-in = v .out-in; all-in = v .all-in; most = v .most; same = v .same; whole = v .whole; behind = v .behind; none = v .none }
+
+  -- h on the account, with a cost of n
+  pub acts-paid : (h : Account ℕ → Account ℕ) (n : ℕ) {l : Limits} {r : Buffer} {run′ other′ : List ℕ} → l ≡ costs n (b .limits) → r ≡ withLimitsOf l b → length run′ ≡ length run → length other′ ≡ length other
+      → drop (b .len .0) (glyphs run′) ≡ drop (b .len .0) (glyphs run) → drop (b .«out_len» .0) (glyphs other′) ≡ drop (b .«out_len» .0) (glyphs other)
+      → accountOf (withLimitsOf (costs n (b .limits)) b) run′ other′ ≡ h (accountOf b run other) → (Acts h b run other r run′ other′) × (r ≡ withLimitsOf (r .limits) b)
+  unfolding withLimitsOf costs
+  acts-paid h n {l} {r} {run′} {other′} el er lr lo dr d e =
+      let a : ℕ = b .limits .allocated in
+      rw (er, el) (
+        record {
+          is = e;
+          size = refl;
+          side = refl;
+          run-beyond = sym (beyond-glyphs a run run′ (v .whole) (sym lr) (sym (behind-further (b .len .0) a (glyphs run) (glyphs run′) (v .len-in) dr)));
+          other-beyond = sym (beyond-glyphs a other other′ (whole-same run other (v .same) (v .whole)) (sym lo) (sym (behind-further (b .«out_len» .0) a (glyphs other) (glyphs other′) (v .out-in) d)));
+          held = held-paid n;
+        },
+        refl,
+      )
+
+  -- the same without a cost
+  pub acts-free : (h : Account ℕ → Account ℕ) {run′ : List ℕ} → length run′ ≡ length run → drop (b .len .0) (glyphs run′) ≡ drop (b .len .0) (glyphs run)
+      → accountOf b run′ other ≡ h (accountOf b run other) → (Acts h b run other b run′ other) × (b ≡ withLimitsOf (b .limits) b)
+  unfolding withLimitsOf
+  acts-free h {run′} lr dr e =
+      let a : ℕ = b .limits .allocated in (
+        record {
+          is = e;
+          size = refl;
+          side = refl;
+          run-beyond = sym (beyond-glyphs a run run′ (v .whole) (sym lr) (sym (behind-further (b .len .0) a (glyphs run) (glyphs run′) (v .len-in) dr)));
+          other-beyond = refl;
+          held = v;
+        },
+        refl,
+      )
+
+-- ---- what the workers ask for, and what they leave
+module _ {b : Buffer} {run other : List ℕ} {s e : ℕ} (v : Mergeful b s e run other) where
+  pub from-gone : InputFrom (goneOf b) (b .idx .0) (b .len .0) s
+  unfolding goneOf
+  from-gone = record { cursor = gone-before (b .phase) (b .idx .0) (b .len .0) (v .whole); inside = v .held .idx-in; start = v .start }
+
+  range-apart : InputRange (glyphs run) (glyphs other) (b .len .0) (b .«out_len» .0) s e
+  range-apart =
+      let same : length (glyphs run) ≡ length (glyphs other) = glyphs-same run other (v .held .same) in
+      record { order = v .order; end = v .end; fits = omega (arith, v .held .len-in, v .held .all-in); out-fits = omega (arith, v .held .out-in, v .held .all-in) }
+
+  range-within : InputRange (glyphs run) (glyphs run) (b .len .0) (b .«out_len» .0) s e
+  range-within = record { order = v .order; end = v .end; fits = omega (arith, v .held .len-in, v .held .all-in); out-fits = omega (arith, v .held .out-in, v .held .all-in) }
+
+  pub ready-apart : 2 ≤ e - s → Mergeable (glyphs run) (glyphs other) (b .len .0) (b .«out_len» .0) s e
+  ready-apart two = mergeable range-apart (omega arith)
+
+  pub ready-within : 2 ≤ e - s → Mergeable (glyphs run) (glyphs run) (b .len .0) (b .«out_len» .0) s e
+  ready-within two = mergeable range-within (omega arith)
+
+  out-low : (outputPhase (b .phase) && b .«have_separate_output») ≡ false → b .«out_len» .0 ≤ goneOf b
+  unfolding goneOf
+  out-low h = out-before (b .phase) (b .«have_separate_output») (b .idx .0) (b .len .0) (b .«out_len» .0) h (v .held .behind) (v .held .none)
+
+  module _ {l : Limits} {r : Buffer} {run′ : List ℕ} (el : l ≡ costs (e - s) (b .limits)) (er : r ≡ withLimitsOf l b) (lr : length run′ ≡ length run) where
+    pub lists-apart : {other′ : List ℕ} → (outputPhase (b .phase) && b .«have_separate_output») ≡ true → length other′ ≡ length other
+        → MergedApart (goneOf b) (b .idx .0) (b .len .0) (b .«out_len» .0) s e (glyphs run) (glyphs other) (glyphs run′) (glyphs other′)
+        → (Acts (merged (s - goneOf b) (e - goneOf b)) b run other r run′ other′) × (r ≡ withLimitsOf (r .limits) b)
+    unfolding withLimitsOf withLimits stateOf
+    lists-apart {other′} h lo m =
+        acts-paid (v .held) (merged (s - goneOf b) (e - goneOf b)) (e - s) el er lr lo (m .behind) (m .out-behind)
+        (account-apart b (costs (e - s) (b .limits)) run′ other′ h
+        ∙ (m .account (stateOf b) ∙ ap (merged (s - goneOf b) (e - goneOf b)) (sym (account-apart b (b .limits) run other h))))
+
+    pub lists-within : (outputPhase (b .phase) && b .«have_separate_output») ≡ false → 2 ≤ e - s
+        → glyphs run′ ≡ mergedRun (mergePlan (b .idx .0) s e (cut (b .len .0) (glyphs run))) (mergedTail (mergePlan (b .idx .0) s e (cut (b .len .0) (glyphs run))) (b .«out_len» .0) (glyphs run))
+        → (Acts (merged (s - goneOf b) (e - goneOf b)) b run other r run′ other) × (r ≡ withLimitsOf (r .limits) b)
+    unfolding withLimitsOf withLimits stateOf
+    lists-within h two eg =
+        let bare : MergedWithin (goneOf b) (b .idx .0) (b .len .0) (b .«out_len» .0) s e (glyphs run) (glyphs run′) = merged-within (ready-within two) from-gone (out-low h) eg in
+        let m : MergedWithin (goneOf b) (b .idx .0) (b .len .0) (b .«out_len» .0) s e (shown (b .phase) run other) (shown (b .phase) run′ other) =
+        shown-merged run run′ other from-gone (out-low h) (b .phase) (v .whole) (ready-within two) eg in
+        acts-paid (v .held) (merged (s - goneOf b) (e - goneOf b)) (e - s) el er lr refl (bare .behind) refl
+        (account-within b (costs (e - s) (b .limits)) run′ other h (v .held .none)
+        ∙ (m .account (stateOf b) ∙ ap (merged (s - goneOf b) (e - goneOf b)) (sym (account-within b (b .limits) run other h (v .held .none)))))
+
+  -- ---- which of its four ways `merge` goes
+  width : e - goneOf b - (s - goneOf b) ≡ e - s
+  width = omega (arith, v .start, v .order)
+
+  way-merge : (a : Account ℕ) (merges : Bool) → 2 ≤ e - s → merges ≡ true → merge merges (s - goneOf b) (e - goneOf b) a ≡ merged (s - goneOf b) (e - goneOf b) a
+  unfolding merge
+  way-merge a merges two h = rw (width, le-ltb (e - s) 2 two, h)
+
+  pub at-none : (merges : Bool) → e - s < 2 → (Acts (merge merges (s - goneOf b) (e - goneOf b)) b run other b run other) × (b ≡ withLimitsOf (b .limits) b)
+  unfolding merge
+  at-none merges h = acts-free (v .held) (merge merges (s - goneOf b) (e - goneOf b)) refl refl (rw (width, lt-ltb (e - s) 2 h))
+
+  pub at-merge : {merges : Bool} {r : Buffer} {run′ other′ : List ℕ} → 2 ≤ e - s → merges ≡ true → (Acts (merged (s - goneOf b) (e - goneOf b)) b run other r run′ other′) × (r ≡ withLimitsOf (r .limits) b)
+      → (Acts (merge merges (s - goneOf b) (e - goneOf b)) b run other r run′ other′) × (r ≡ withLimitsOf (r .limits) b)
+  at-merge {merges} two h m = (
+    record {
+      is = m .0 .is ∙ sym (way-merge (accountOf b run other) merges two h);
+      size = m .0 .size;
+      side = m .0 .side;
+      run-beyond = m .0 .run-beyond;
+      other-beyond = m .0 .other-beyond;
+      held = m .0 .held;
+    },
+    m .1,
+  )
+
+  pub at-over : {merges : Bool} → 2 ≤ e - s → merges ≡ false → 255 < e - s → (Acts (merge merges (s - goneOf b) (e - goneOf b)) b run other b run other) × (b ≡ withLimitsOf (b .limits) b)
+  unfolding merge
+  at-over {merges} two h far = acts-free (v .held) (merge merges (s - goneOf b) (e - goneOf b)) refl refl (rw (width, le-ltb (e - s) 2 two, h, lt-ltb 255 (e - s) far))
+
+  pub flag-room : 2 ≤ e - s → (s < e) × (e ≤ length (glyphs run))
+  flag-room two = (omega arith, omega (arith, v .end, v .held .len-in, v .held .all-in))
+
+  module _ (bits : ℕ) (run′ : List ℕ) (two : 2 ≤ e - s) (eg : glyphs run′ ≡ interior (b .level) (sought (b .level) (slice s e (clusters (glyphs run)))) bits s e (glyphs run)) where
+    flag-is : accountOf b run′ other ≡ flagInterior bits (s - goneOf b) (e - goneOf b) (accountOf b run other)
+    unfolding withLimitsOf withLimits stateOf
+    flag-is = by-place (outputPhase (b .phase) && b .«have_separate_output») refl
+      where
+        by-place : (x : Bool) → (outputPhase (b .phase) && b .«have_separate_output») ≡ x → accountOf b run′ other ≡ flagInterior bits (s - goneOf b) (e - goneOf b) (accountOf b run other)
+        by-place true h =
+            account-apart b (b .limits) run′ other h
+            ∙ (flagged-held range-apart from-gone bits (stateOf b) (b .level) (glyphs other) two refl eg refl ∙ ap (flagInterior bits (s - goneOf b) (e - goneOf b)) (sym (account-apart b (b .limits) run other h)))
+        by-place false h =
+            account-within b (b .limits) run′ other h (v .held .none)
+            ∙ (shown-flagged run run′ other from-gone (out-low h) (b .phase) (v .whole) range-within bits (stateOf b) (b .level) two refl eg
+            ∙ ap (flagInterior bits (s - goneOf b) (e - goneOf b)) (sym (account-within b (b .limits) run other h (v .held .none))))
+
+    flag-behind : drop (b .len .0) (glyphs run′) ≡ drop (b .len .0) (glyphs run)
+    flag-behind = rw eg (interior-behind (b .level) (sought (b .level) (slice s e (clusters (glyphs run)))) bits (b .len .0) s e (glyphs run) (v .order) (flag-room two .1) (v .end))
+
+  pub at-flag : {merges : Bool} {run′ : List ℕ} → 2 ≤ e - s → merges ≡ false → e - s ≤ 255 → length run′ ≡ length run
+      → glyphs run′ ≡ interior (b .level) (sought (b .level) (slice s e (clusters (glyphs run)))) 3 s e (glyphs run)
+      → (Acts (merge merges (s - goneOf b) (e - goneOf b)) b run other b run′ other) × (b ≡ withLimitsOf (b .limits) b)
+  unfolding merge
+  at-flag {merges} {run′} two h near lr eg =
+      acts-free (v .held) (merge merges (s - goneOf b) (e - goneOf b)) lr (flag-behind 3 run′ two eg) (flag-is 3 run′ two eg ∙ rw (width, le-ltb (e - s) 2 two, h, le-ltb 255 (e - s) near))
+
+-- ---- the tests of a call
+module _ (b : Buffer) where
+  pub gone-at : {x : ℕ} (p : Phase) → b .phase ≡ p → x ≡ goneIn p (b .idx .0) (b .len .0) → x ≡ goneOf b
+  unfolding goneOf
+  gone-at p h e = e ∙ ap (λ (q : Phase). goneIn q (b .idx .0) (b .len .0)) (sym h)
+
+  module _ (s e : ℕ) where
+    pub outside-order : e < s → true ≡ (ltb e s || (ltb (b .len .0) e || ltb s (goneOf b)))
+    outside-order h = rw (lt-ltb e s h)
+
+    pub outside-end : s ≤ e → b .len .0 < e → true ≡ (ltb e s || (ltb (b .len .0) e || ltb s (goneOf b)))
+    outside-end o h = rw (le-ltb e s o, lt-ltb (b .len .0) e h)
+
+    pub outside-start : {g : ℕ} → s ≤ e → e ≤ b .len .0 → g ≡ goneOf b → ltb s g ≡ (ltb e s || (ltb (b .len .0) e || ltb s (goneOf b)))
+    outside-start {g} o h k = rw (le-ltb e s o, le-ltb (b .len .0) e h) (ap (ltb s) k)
+
+module _ (level : ℕ) where
+  pub level-none : level ≡ 0 → true ≡ graphemesMerge level
+  level-none h = rw (eq-eqb level 0 h)
+
+  pub level-some : (level ≡ 0 → ⊥) → eqb level 3 ≡ graphemesMerge level
+  level-some h = rw (ne-eqb level 0 h)
+
+-- ---- a call on the input
+module _ (merges : ℕ → Bool) (s e : InputPlace) (a : Account ℕ) where
+  input-spoiled : isSpoiled a ≡ true → mergeInput merges s e a ≡ refused WrongPhase
+  unfolding mergeInput refuse_when_else_
+  input-spoiled h = rw h
+
+  input-outside : isSpoiled a ≡ false → outsideInput s e a ≡ true → mergeInput merges s e a ≡ refused OutOfRange
+  unfolding mergeInput refuse_when_else_
+  input-outside h k = rw (h, k)
+
+  input-merges : isSpoiled a ≡ false → outsideInput s e a ≡ false → mergeInput merges s e a ≡ accepted (merge (merges (a .state .level)) (s .0 - a .state .gone) (e .0 - a .state .gone) a)
+  unfolding mergeInput refuse_when_else_
+  input-merges h k = rw (h, k)
+
+  input-level : (x : Bool) → x ≡ merges (a .state .level) → mergeInput merges s e a ≡ mergeInput (λ level. x) s e a
+  unfolding mergeInput
+  input-level x h = rw h
+
+neither-left : (x y : Bool) → (x || y) ≡ false → x ≡ false
+neither-left true y h = h
+neither-left false y h = refl
+
+neither-right : (x y : Bool) → (x || y) ≡ false → y ≡ false
+neither-right true y h = absurd (false≢true (sym h))
+neither-right false y h = h
+
+module _ {b : Buffer} {run other : List ℕ} (v : Held b run other) (s e : InputPlace) where
+  abbrev outside : Bool
+  outside = ltb (e .0) (s .0) || (ltb (b .len .0) (e .0) || ltb (s .0) (goneOf b))
+
+  gone-of : (accountOf b run other) .state .gone ≡ goneOf b
+  unfolding accountOf stateOf
+  gone-of = refl
+
+  level-of : (accountOf b run other) .state .level ≡ b .level
+  unfolding accountOf stateOf
+  level-of = refl
+
+  module _ (h : spoiledPhase (b .phase) ≡ false) where
+    outside-of : outsideInput s e (accountOf b run other) ≡ outside
+    unfolding outsideInput
+    outside-of = rw (len-of b run other v h, gone-of)
+
+    pub in-mergeful : {t : Bool} → t ≡ outside → t ≡ false → Mergeful b (s .0) (e .0) run other
+    in-mergeful {t} et k =
+        let none : outside ≡ false = sym et ∙ k in
+        let more : (ltb (b .len .0) (e .0) || ltb (s .0) (goneOf b)) ≡ false = neither-right (ltb (e .0) (s .0)) _ none in
+        record {
+          held = v;
+          whole = h;
+          start = ltb-false (s .0) (goneOf b) (neither-right (ltb (b .len .0) (e .0)) (ltb (s .0) (goneOf b)) more);
+          order = ltb-false (e .0) (s .0) (neither-left (ltb (e .0) (s .0)) _ none);
+          end = ltb-false (b .len .0) (e .0) (neither-left (ltb (b .len .0) (e .0)) (ltb (s .0) (goneOf b)) more);
+        }
+
+    module _ (merges : Bool) {r : Reply} {t : Bool} (et : t ≡ outside) where
+      pub in-outside : t ≡ true → r ≡ reply b (No OutOfRange) → MeetsIn (λ capacity a. mergeInput (λ level. merges) s e a) b run other r run other
+      in-outside k er = in-refused OutOfRange (input-outside (λ level. merges) s e _ (spoiled-of b run other ∙ h) (outside-of ∙ (sym et ∙ k))) v er
+
+      pub in-merges : {f : Buffer} {run′ other′ : List ℕ} → t ≡ false → Acts (merge merges (s .0 - goneOf b) (e .0 - goneOf b)) b run other f run′ other′ → r ≡ reply f Done
+          → MeetsIn (λ capacity a. mergeInput (λ level. merges) s e a) b run other r run′ other′
+      in-merges {f} {run′} {other′} k u er =
+          let br : wordsFrom (f .limits .allocated) run′ ≡ wordsFrom (f .limits .allocated) run = subst (λ (n : ℕ). wordsFrom n run′ ≡ wordsFrom n run) (sym (u .size)) (u .run-beyond) in
+          let bo : wordsFrom (f .limits .allocated) other′ ≡ wordsFrom (f .limits .allocated) other = subst (λ (n : ℕ). wordsFrom n other′ ≡ wordsFrom n other) (sym (u .size)) (u .other-beyond) in
+          in-accepted f (u .side) br bo (u .held)
+          (input-merges (λ level. merges) s e _ (spoiled-of b run other ∙ h) (outside-of ∙ (sym et ∙ k))
+          ∙ (ap (λ (g : ℕ). accepted (merge merges (s .0 - g) (e .0 - g) (accountOf b run other))) gone-of ∙ ap accepted (sym (u .is)))) er
+
+  pub in-spoiled : (merges : Bool) {r : Reply} → spoiledPhase (b .phase) ≡ true → r ≡ reply b (No WrongPhase) → MeetsIn (λ capacity a. mergeInput (λ level. merges) s e a) b run other r run other
+  in-spoiled merges h er = in-refused WrongPhase (input-spoiled (λ level. merges) s e _ (spoiled-of b run other ∙ h)) v er
+
+-- the level says whether the call merges
+pub at-level : {b : Buffer} {run other : List ℕ} {r : Reply} {run′ other′ : List ℕ} {x : Bool} (merges : ℕ → Bool) (s e : InputPlace) → x ≡ merges (b .level)
+    → MeetsIn (λ capacity a. mergeInput (λ level. x) s e a) b run other r run′ other′ → MeetsIn (λ capacity a. mergeInput (λ level. merges level) s e a) b run other r run′ other′
+unfolding accountOf stateOf
+at-level {b} {run} {other} {r} {run′} {other′} {x} merges s e h m = in-call (input-level merges s e (accountOf b run other) x h) m

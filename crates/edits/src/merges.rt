@@ -1,0 +1,277 @@
+// Merging: calls 11 to 14.
+ghost use mathlib.Core.Path.{_≡_};
+ghost use mathlib.Core.Bool.{_&&_, _||_};
+ghost use Prim.Native.Nat.{_-_, _≤_};
+ghost use lib.Dec.{ltb};
+ghost use Rattle.lists.specs.Account.{outputPhase};
+ghost use Rattle.lists.specs.State.{Held, goneOf};
+ghost use Rattle.lists.specs.States.{withLimitsOf};
+ghost use Rattle.lists.specs.Contract.{Meets, MeetsIn};
+ghost use Rattle.edits.specs.Merging.{merge, merged, mergeInput, mergeOut, mergedOut, mergeDone, clustersMerge, graphemesMerge};
+ghost use Rattle.edits.specs.Acts.{Acts, Mergeful, OutMergeful};
+use super::flags;
+use super::merging;
+use lists::Buffer;
+use lists::Reply;
+use lists::state;
+use records::DonePlace;
+use records::InputPlace;
+use records::Phase;
+use records::Refusal;
+
+// Whether there is an output and the other slice holds it.
+fn lies_apart(b: Buffer) -> bool
+    ensures { λ r. ⌜ r ≡ (outputPhase (b .phase) && b .«have_separate_output») ⌝ }
+{
+    let phase = b.phase;
+    if state::have_output(phase) {
+        return b.have_separate_output;
+    }
+    false
+}
+
+// A merge of at least two glyphs, with what it costs.
+fn merge_lists(b: Buffer, run: &mut [u32], other: &mut [u32], s: usize, e: usize) -> Buffer
+    requires { ⌜ (Mergeful b s e (now run) (now other)) × (2 ≤ e - s) ⌝ }
+    ensures { λ r. ⌜ (Acts (merged (s - goneOf b) (e - goneOf b)) b (now (run .entry)) (now (other .entry)) r (now (run .exit)) (now (other .exit))) × (r ≡ withLimitsOf (r .limits) b) ⌝ }
+{
+    let idx = b.idx.0;
+    let len = b.len.0;
+    let out_len = b.out_len.0;
+    let paid = state::with_limits(b, records::counters::pay(b.limits, e - s));
+    if lies_apart(b) {
+        merging::merge_apart(run, other, idx, len, out_len, s, e);
+        return paid;
+    }
+    merging::merge_within(run, idx, len, out_len, s, e);
+    paid
+}
+
+// A merge of the places s to e of the run, or the flags that stand for it.
+pub fn merge_at(
+    b: Buffer,
+    run: &mut [u32],
+    other: &mut [u32],
+    merges: bool,
+    s: usize,
+    e: usize,
+) -> Buffer
+    requires { ⌜ Mergeful b s e (now run) (now other) ⌝ }
+    ensures { λ r. ⌜ (Acts (merge merges (s - goneOf b) (e - goneOf b)) b (now (run .entry)) (now (other .entry)) r (now (run .exit)) (now (other .exit))) × (r ≡ withLimitsOf (r .limits) b) ⌝ }
+{
+    let n = e - s;
+    if n < 2 {
+        return b;
+    }
+    if merges {
+        return merge_lists(b, run, other, s, e);
+    }
+    if 255 < n {
+        return b;
+    }
+    flags::flag_range(run, b.level, 3, s, e);
+    b
+}
+
+pub fn clusters_merge(level: u32) -> bool
+    ensures { λ r. ⌜ r ≡ clustersMerge level ⌝ }
+{
+    level <= 1
+}
+
+pub fn graphemes_merge(level: u32) -> bool
+    ensures { λ r. ⌜ r ≡ graphemesMerge level ⌝ }
+{
+    if level == 0 {
+        return true;
+    }
+    level == 3
+}
+
+// How many glyphs of the input no list shows.
+fn gone(b: Buffer) -> usize
+    ensures { λ r. ⌜ r ≡ goneOf b ⌝ }
+{
+    let phase = b.phase;
+    match phase {
+        Phase::Plain => 0,
+        Phase::Output => b.idx.0,
+        Phase::Positions => 0,
+        Phase::Spoiled => b.len.0,
+    }
+}
+
+fn outside_input(b: Buffer, s: usize, e: usize) -> bool
+    ensures { λ r. ⌜ r ≡ (ltb e s || (ltb (b .len .0) e || ltb s (goneOf b))) ⌝ }
+{
+    if e < s {
+        return true;
+    }
+    if b.len.0 < e {
+        return true;
+    }
+    s < gone(b)
+}
+
+fn merge_in(
+    b: Buffer,
+    run: &mut [u32],
+    other: &mut [u32],
+    merges: bool,
+    start: InputPlace,
+    end: InputPlace,
+) -> Reply
+    requires { ⌜ Held b (now run) (now other) ⌝ }
+    ensures { λ r. ⌜ MeetsIn (λ capacity a. mergeInput (λ level. merges) start end a) b (now (run .entry)) (now (other .entry)) r (now (run .exit)) (now (other .exit)) ⌝ }
+{
+    let phase = b.phase;
+    if state::is_spoiled(phase) {
+        return state::refusal(b, Refusal::WrongPhase);
+    }
+    if outside_input(b, start.0, end.0) {
+        return state::refusal(b, Refusal::OutOfRange);
+    }
+    state::accepted(merge_at(b, run, other, merges, start.0, end.0))
+}
+
+// 11
+pub fn merge_clusters(
+    b: Buffer,
+    first: &mut [u32],
+    second: &mut [u32],
+    start: InputPlace,
+    end: InputPlace,
+) -> Reply
+    ensures { λ r. ⌜ Meets (λ capacity a. mergeInput (λ level. clustersMerge level) start end a) b (now (first .entry)) (now (second .entry)) r (now (first .exit)) (now (second .exit)) ⌝ }
+{
+    if state::is_sound(b, first, second) {
+        let merges = clusters_merge(b.level);
+        if b.swapped {
+            return merge_in(b, second, first, merges, start, end);
+        }
+        return merge_in(b, first, second, merges, start, end);
+    }
+    state::refusal(b, Refusal::Contradiction)
+}
+
+// 13
+pub fn merge_grapheme_clusters(
+    b: Buffer,
+    first: &mut [u32],
+    second: &mut [u32],
+    start: InputPlace,
+    end: InputPlace,
+) -> Reply
+    ensures { λ r. ⌜ Meets (λ capacity a. mergeInput (λ level. graphemesMerge level) start end a) b (now (first .entry)) (now (second .entry)) r (now (first .exit)) (now (second .exit)) ⌝ }
+{
+    if state::is_sound(b, first, second) {
+        let merges = graphemes_merge(b.level);
+        if b.swapped {
+            return merge_in(b, second, first, merges, start, end);
+        }
+        return merge_in(b, first, second, merges, start, end);
+    }
+    state::refusal(b, Refusal::Contradiction)
+}
+
+// A merge of at least two glyphs of the output, with what it costs.
+fn merge_out_lists(b: Buffer, run: &mut [u32], other: &mut [u32], s: usize, e: usize) -> Buffer
+    requires { ⌜ (OutMergeful b s e (now run) (now other)) × (2 ≤ e - s) ⌝ }
+    ensures { λ r. ⌜ (Acts (mergedOut s e) b (now (run .entry)) (now (other .entry)) r (now (run .exit)) (now (other .exit))) × (r ≡ withLimitsOf (r .limits) b) ⌝ }
+{
+    let idx = b.idx.0;
+    let len = b.len.0;
+    let out_len = b.out_len.0;
+    let paid = state::with_limits(b, records::counters::pay(b.limits, e - s));
+    if b.have_separate_output {
+        merging::merge_out_apart(run, other, idx, len, out_len, s, e);
+        return paid;
+    }
+    merging::merge_out_within(run, idx, len, out_len, s, e);
+    paid
+}
+
+// A merge of the places s to e of the output.
+pub fn merge_out_at(
+    b: Buffer,
+    run: &mut [u32],
+    other: &mut [u32],
+    merges: bool,
+    s: usize,
+    e: usize,
+) -> Buffer
+    requires { ⌜ OutMergeful b s e (now run) (now other) ⌝ }
+    ensures { λ r. ⌜ (Acts (mergeOut merges s e) b (now (run .entry)) (now (other .entry)) r (now (run .exit)) (now (other .exit))) × (r ≡ withLimitsOf (r .limits) b) ⌝ }
+{
+    if e - s < 2 {
+        return b;
+    }
+    if merges {
+        return merge_out_lists(b, run, other, s, e);
+    }
+    b
+}
+
+fn merge_out_in(
+    b: Buffer,
+    run: &mut [u32],
+    other: &mut [u32],
+    merges: bool,
+    start: DonePlace,
+    end: DonePlace,
+) -> Reply
+    requires { ⌜ Held b (now run) (now other) ⌝ }
+    ensures { λ r. ⌜ MeetsIn (λ capacity a. mergeDone (λ level. merges) start end a) b (now (run .entry)) (now (other .entry)) r (now (run .exit)) (now (other .exit)) ⌝ }
+{
+    let phase = b.phase;
+    if state::have_output(phase) {
+        if end.0 < start.0 {
+            return state::refusal(b, Refusal::OutOfRange);
+        }
+        if b.out_len.0 < end.0 {
+            return state::refusal(b, Refusal::OutOfRange);
+        }
+        return state::accepted(merge_out_at(b, run, other, merges, start.0, end.0));
+    }
+    state::refusal(b, Refusal::WrongPhase)
+}
+
+// 12
+pub fn merge_out_clusters(
+    b: Buffer,
+    first: &mut [u32],
+    second: &mut [u32],
+    start: DonePlace,
+    end: DonePlace,
+) -> Reply
+    ensures { λ r. ⌜ Meets (λ capacity a. mergeDone (λ level. clustersMerge level) start end a) b (now (first .entry)) (now (second .entry)) r (now (first .exit)) (now (second .exit)) ⌝ }
+{
+    if state::is_sound(b, first, second) {
+        let merges = clusters_merge(b.level);
+        if b.swapped {
+            return merge_out_in(b, second, first, merges, start, end);
+        }
+        return merge_out_in(b, first, second, merges, start, end);
+    }
+    state::refusal(b, Refusal::Contradiction)
+}
+
+// 14
+pub fn merge_out_grapheme_clusters(
+    b: Buffer,
+    first: &mut [u32],
+    second: &mut [u32],
+    start: DonePlace,
+    end: DonePlace,
+) -> Reply
+    ensures { λ r. ⌜ Meets (λ capacity a. mergeDone (λ level. graphemesMerge level) start end a) b (now (first .entry)) (now (second .entry)) r (now (first .exit)) (now (second .exit)) ⌝ }
+{
+    if state::is_sound(b, first, second) {
+        let merges = graphemes_merge(b.level);
+        if b.swapped {
+            return merge_out_in(b, second, first, merges, start, end);
+        }
+        return merge_out_in(b, first, second, merges, start, end);
+    }
+    state::refusal(b, Refusal::Contradiction)
+}

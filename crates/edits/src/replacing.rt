@@ -1,0 +1,116 @@
+// Replacing: calls 0D and 0E.
+ghost use mathlib.Core.List.{[], _∷_};
+ghost use Prim.Native.Nat.{_+_, _≤_, _<_};
+ghost use lib.ListN.{length};
+ghost use Rattle.lists.specs.State.{Held};
+ghost use Rattle.lists.specs.Moving.{SyncOutput};
+ghost use Rattle.lists.specs.Contract.{Meets, MeetsIn};
+ghost use Rattle.edits.specs.Writing.{replaceGlyphs};
+ghost use Rattle.edits.specs.Acts.{Acts, Writable};
+ghost use Rattle.edits.specs.Replaces.{replaced, writesReplaced};
+use super::merges;
+use super::writing;
+use lists::Buffer;
+use lists::Reply;
+use lists::Room;
+use lists::state;
+use records::Refusal;
+
+// The inputs merge, then copies of the first go behind the output in their place.
+fn replace_merged(
+    b: Buffer,
+    run: &mut [u32],
+    other: &mut [u32],
+    num_in: usize,
+    num_out: usize,
+    numbers: &[u32],
+) -> Buffer
+    requires { ⌜ (Writable b «num_in» «num_out» (now run) (now other)) × (b .idx .0 < b .len .0) × («num_out» ≤ length (now numbers)) ⌝ }
+    ensures { λ r. ⌜ Acts (replaced «num_in» «num_out» (now (numbers .entry))) b (now (run .entry)) (now (other .entry)) r (now (run .exit)) (now (other .exit)) ⌝ }
+{
+    let idx = b.idx.0;
+    let merged = merges::merge_at(b, run, other, b.level <= 1, idx, idx + num_in);
+    let g = records::glyphs::get(run, idx);
+    writing::write_copies(merged, run, other, g, numbers, num_in, num_out)
+}
+
+// The same after its size.
+fn replace_sized(
+    b: Buffer,
+    run: &mut [u32],
+    other: &mut [u32],
+    num_in: usize,
+    num_out: usize,
+    numbers: &[u32],
+) -> Reply
+    requires { ⌜ (SyncOutput b (now run) (now other)) × (b .idx .0 + «num_in» ≤ b .len .0) × (b .idx .0 < b .len .0) × («num_out» ≤ length (now numbers)) ⌝ }
+    ensures { λ r. ⌜ MeetsIn (λ capacity a. writesReplaced «num_in» «num_out» (now (numbers .entry)) capacity a) b (now (run .entry)) (now (other .entry)) r (now (run .exit)) (now (other .exit)) ⌝ }
+{
+    let size = b.out_len.0 + num_out;
+    let room = state::room_for(b.limits, records::glyphs::capacity(run), size);
+    match room {
+        Room::Fits => {
+            let grown = state::with_limits(b, records::counters::grow(b.limits, size));
+            let parted = writing::make_room_for(grown, run, other, num_in, num_out);
+            state::accepted(replace_merged(parted, run, other, num_in, num_out, numbers))
+        }
+        Room::GivesUp => state::accepted(state::with_limits(b, records::counters::fail(b.limits))),
+        Room::Over => state::refusal(b, Refusal::OverCapacity),
+    }
+}
+
+fn replace_in(
+    b: Buffer,
+    run: &mut [u32],
+    other: &mut [u32],
+    num_in: usize,
+    num_out: usize,
+    numbers: &[u32],
+) -> Reply
+    requires { ⌜ Held b (now run) (now other) ⌝ }
+    ensures { λ r. ⌜ MeetsIn (λ capacity a. replaceGlyphs capacity «num_in» «num_out» (now (numbers .entry)) a) b (now (run .entry)) (now (other .entry)) r (now (run .exit)) (now (other .exit)) ⌝ }
+{
+    let phase = b.phase;
+    if state::have_output(phase) {
+        let left = b.len.0 - b.idx.0;
+        if left < 1 {
+            return state::refusal(b, Refusal::OutOfRange);
+        }
+        if left < num_in {
+            return state::refusal(b, Refusal::OutOfRange);
+        }
+        if numbers.len() < num_out {
+            return state::refusal(b, Refusal::BadOperand);
+        }
+        return replace_sized(b, run, other, num_in, num_out, numbers);
+    }
+    state::refusal(b, Refusal::WrongPhase)
+}
+
+// 0E
+pub fn replace_glyphs(
+    b: Buffer,
+    first: &mut [u32],
+    second: &mut [u32],
+    num_in: usize,
+    num_out: usize,
+    numbers: &[u32],
+) -> Reply
+    ensures { λ r. ⌜ Meets (λ capacity a. replaceGlyphs capacity «num_in» «num_out» (now (numbers .entry)) a) b (now (first .entry)) (now (second .entry)) r (now (first .exit)) (now (second .exit)) ⌝ }
+{
+    if state::is_sound(b, first, second) {
+        if b.swapped {
+            return replace_in(b, second, first, num_in, num_out, numbers);
+        }
+        return replace_in(b, first, second, num_in, num_out, numbers);
+    }
+    state::refusal(b, Refusal::Contradiction)
+}
+
+// 0D
+pub fn replace_glyph(b: Buffer, first: &mut [u32], second: &mut [u32], number: u32) -> Reply
+    ensures { λ r. ⌜ Meets (λ capacity a. replaceGlyphs capacity 1 1 (number ∷ []) a) b (now (first .entry)) (now (second .entry)) r (now (first .exit)) (now (second .exit)) ⌝ }
+{
+    let one = [number];
+    replace_glyphs(b, first, second, 1, 1, &one)
+}
