@@ -4,7 +4,7 @@ ghost use mathlib.Core.Bool.{cond};
 ghost use mathlib.Core.List.{[]};
 ghost use Prim.Native.Nat.{_+_, _-_, _≤_};
 ghost use lib.ListN.{length};
-ghost use Rattle.records.specs.View.{glyphs};
+ghost use Rattle.records.specs.View.{glyphs, Whole};
 ghost use Rattle.lists.specs.Cursor.{fresh, enter, leave, allocateLigId, clearOutput, clearPositions, nextGlyphs, skipGlyph, sync, moveTo, forward, backward, goesBack};
 ghost use Rattle.lists.specs.State.{account, sound, Held};
 ghost use Rattle.lists.specs.Contract.{Meets, MeetsIn};
@@ -370,7 +370,7 @@ pub fn move_to(b: Buffer, first: &mut [u32], second: &mut [u32], i: usize) -> Re
 
 // The output part of whichever lent slice holds it; of a buffer that contradicts itself, nothing.
 pub fn out_info<'a>(b: Buffer, first: &'a [u32], second: &'a [u32]) -> &'a [u32]
-    ensures { λ r. ⌜ glyphs (now r) ≡ cond (sound b (now (first .entry)) (now (second .entry))) (account b (now (first .entry)) (now (second .entry)) .done) [] ⌝ }
+    ensures { λ r. ⌜ (glyphs (now r) ≡ cond (sound b (now (first .entry)) (now (second .entry))) (account b (now (first .entry)) (now (second .entry)) .done) []) × (Whole (now r)) ⌝ }
 {
     if state::is_sound(b, first, second) {
         let n = b.out_len.0;

@@ -3,7 +3,7 @@ use mathlib.Core.{Path._≡_, Path.refl, Path.sym, Path.ap, Path._∙_, Bool.Boo
 use Prim.Native.Nat.{ℕ, zero, suc, _+_, _*_, _/_, _%_, _≤_, _<_}
 use native.Mathlib.Nat.{suc-add}
 use native.Mathlib.Omega.{arith}
-use lib.{ListN.length, ListN.getD, ListN.set, ListN.drop, ListN.take, ListN.replicate, ListN.length-map, ListN.length-drop, ListN.List·getD-map, Seq.set-getD, Seq.drop-nil, Seq.take-nil, Dec.eqb, Dec.leb, Bits.bitAnd, Bits.bitOr}
+use lib.{ListN.length, ListN.getD, ListN.set, ListN.drop, ListN.take, ListN.replicate, ListN.length-map, ListN.length-drop, ListN.List·getD-map, Seq.set-getD, Seq.drop-nil, Seq.take-nil, Seq.length-take-le, Dec.eqb, Dec.leb, Bits.bitAnd, Bits.bitOr}
 use borrow.Author.Tests.{eq-eqb, ne-eqb, eqb-true, leb-true}
 use Rattle.records.specs.declared.{Position.Position, Glyph.Glyph as Words}
 use Rattle.records.specs.Counters.{capacityOf, rightlyLent}
@@ -13,6 +13,24 @@ use Rattle.records.specs.View.{fives, glyphOf, glyphs, positionOf, place
 
 five-suc : (i : ℕ) → 5 * suc i ≡ suc (suc (suc (suc (suc (5 * i)))))
 five-suc i = omega arith
+
+-- ---- the words of the struct, as a glyph
+module _ (g : Words) where
+  pub seen-number : seen g .glyph ≡ g .glyph
+  unfolding seen glyphOf
+  seen-number = refl
+
+  pub seen-mask : seen g .info .mask ≡ g .mask
+  unfolding seen glyphOf
+  seen-mask = refl
+
+  pub seen-cluster : seen g .info .cluster ≡ g .cluster
+  unfolding seen glyphOf
+  seen-cluster = refl
+
+  pub seen-numbered : (n : ℕ) → seen (record { glyph = n; mask = g .mask; cluster = g .cluster; var0 = g .var0; var1 = g .var1 }) ≡ record { glyph = n; info = seen g .info }
+  unfolding seen glyphOf
+  seen-numbered n = refl
 
 -- ---- five words at a time, whatever they make
 module _ {A : Type 0} (mk : ℕ → ℕ → ℕ → ℕ → ℕ → A) where
@@ -156,6 +174,10 @@ take-glyphs n ws = take-fives glyphOf n ws
 pub take-room : (n : ℕ) (ws : List ℕ) → n ≤ length (glyphs ws) → 5 * n ≤ length ws
 unfolding glyphs
 take-room n ws h = omega (arith, length-fives glyphOf ws)
+
+pub take-whole : (n : ℕ) (ws : List ℕ) → n ≤ length (glyphs ws) → Whole (take (5 * n) ws)
+unfolding Whole
+take-whole n ws h = omega (arith, length-take-le (5 * n) ws (take-room n ws h))
 
 -- glyphs in a slice have no position; with positions, they have again none once these are taken away
 pub glyphs-plain : (ws : List ℕ) → map (change (withPosition zeroPosition)) (glyphs ws) ≡ glyphs ws

@@ -6,7 +6,7 @@ ghost use lib.ListN.{length, getD, set, take};
 ghost use Rattle.records.specs.Counters.{capacityOf, rightlyLent};
 ghost use Rattle.records.specs.Glyphs.{change, setCluster, withMask, flagged, flaggedUnless, key};
 ghost use Rattle.records.specs.Ranges.{clusters};
-ghost use Rattle.records.specs.View.{glyphs, seen, zeroGlyph, wordsAt, putWords};
+ghost use Rattle.records.specs.View.{glyphs, Whole, seen, zeroGlyph, wordsAt, putWords};
 use super::Glyph;
 
 // How many glyphs a slice holds.
@@ -136,7 +136,7 @@ pub fn or_mask_unless(ws: &mut [u32], i: usize, cluster: u32, bits: u32)
 // The first n glyphs of a slice.
 pub fn first_of(ws: &[u32], n: usize) -> &[u32]
     requires { ⌜ n ≤ length (glyphs (now ws)) ⌝ }
-    ensures { λ r. ⌜ glyphs (now r) ≡ take n (glyphs (now (ws .entry))) ⌝ }
+    ensures { λ r. ⌜ (glyphs (now r) ≡ take n (glyphs (now (ws .entry)))) × (Whole (now r)) ⌝ }
 {
     let end = 5 * n;
     &ws[..end]
