@@ -4,9 +4,9 @@ use Prim.Native.Nat.{ℕ, zero, suc, _+_, _-_, _≤_, _<_}
 use native.Mathlib.Omega.{arith}
 use borrow.Author.Tests.{le-ltb, lt-ltb}
 use lib.{Dec.eqb, Dec.ltb, ListN.length, ListN.take, ListN.drop, ListN.getD, Seq.slice, Seq.slice-cons}
-use Rattle.records.specs.{WrongPhase, OutOfRange, Done, No, Limits, Glyphs.Glyph, Glyphs.Info, Glyphs.blank, Glyphs.setCluster, Ranges.clusters, Ranges.edit, Ranges.tails, Ranges.infos, Ranges.is, Ranges.first, Ranges.last, View.glyphs, View.glyphOf, View.seen, View.zeroGlyph, View.wordsFrom}
+use Rattle.records.specs.{WrongPhase, OutOfRange, Done, No, Limits, Glyphs.Glyph, Glyphs.Info, Glyphs.blank, Glyphs.setCluster, Ranges.clusters, Ranges.edit, Ranges.tails, Ranges.infos, Ranges.is, Ranges.first, Ranges.last, View.glyphs, View.seen, View.zeroGlyph, View.wordsFrom}
 use Rattle.records.specs.declared.{Glyph.Glyph as Words}
-use Rattle.records.proofs.{View.length-clusters, View.whole-same, Renaming.append-map}
+use Rattle.records.proofs.{View.length-clusters, View.whole-same, View.cluster-of, View.seen-mask, View.seen-cluster, Renaming.append-map}
 use Rattle.lists.specs.declared.{Buffer.Buffer, Reply.Reply}
 use Rattle.lists.specs.{Account.Account, Account.outputPhase, Account.hasOutput, Account.outLen, Account.withDone, Contract.MeetsIn, Cursor.dropping, Results.refused, Results.accepted, Results.refuse_when_else_, State.accountOf, State.goneOf, State.Held, States.reply, States.atPlaces, States.withLimitsOf}
 use Rattle.lists.proofs.{Accounts.output-clean, Accounts.output-of, Accounts.out-of, Accounts.held-lengths, Calls.in-refused, Calls.in-accepted, Copying.range-same, Simple.dropping-of}
@@ -15,12 +15,6 @@ use Rattle.edits.proofs.Acting.{output-account, output-cong, beyond}
 use Rattle.edits.proofs.Holding.{edit-take, edit-drop-behind, clusters-take}
 use Rattle.edits.proofs.Writings.{rest-first, rest-length, rest-short, rest-long, done-last}
 use Rattle.edits.proofs.Replacements.{gone-output, merge-places, limits-first}
-
-cluster-at : (l : List (Glyph ℕ)) (i : ℕ) → getD (clusters l) i 4294967295 ≡ (getD l i zeroGlyph) .info .cluster
-unfolding clusters zeroGlyph glyphOf
-cluster-at [] i = refl
-cluster-at (x ∷ l) zero = refl
-cluster-at (x ∷ l) (suc i) = cluster-at l i
 
 -- ---- whether the cluster survives
 module _ {b : Buffer} {run other : List ℕ} (v : Deletable b run other) where
@@ -56,8 +50,8 @@ module _ {b : Buffer} {run other : List ℕ} (v : Deletable b run other) where
   pub next-is : {c d : ℕ} → 1 < b .len .0 - b .idx .0 → c ≡ getD (clusters (glyphs run)) (b .idx .0) 4294967295 → d ≡ getD (clusters (glyphs run)) (b .idx .0 + 1) 4294967295 → eqb d c ≡ nextHas here
   next-is {c} {d} h ec ed =
       let n : b .idx .0 + 1 ≡ suc (b .idx .0) = omega arith in
-      let e : d ≡ (getD (glyphs run) (suc (b .idx .0)) zeroGlyph) .info .cluster = ed ∙ (ap (λ (k : ℕ). getD (clusters (glyphs run)) k 4294967295) n ∙ cluster-at (glyphs run) (suc (b .idx .0))) in
-      let f : c ≡ at-cursor .info .cluster = ec ∙ cluster-at (glyphs run) (b .idx .0) in
+      let e : d ≡ (getD (glyphs run) (suc (b .idx .0)) zeroGlyph) .info .cluster = ed ∙ (ap (λ (k : ℕ). getD (clusters (glyphs run)) k 4294967295) n ∙ cluster-of (glyphs run) (suc (b .idx .0))) in
+      let f : c ≡ at-cursor .info .cluster = ec ∙ cluster-of (glyphs run) (b .idx .0) in
       (λ k. eqb (e k) (f k)) ∙ sym (next-yes h)
 
   pub next-none : b .len .0 - b .idx .0 ≤ 1 → false ≡ nextHas here
@@ -79,11 +73,11 @@ module _ {b : Buffer} {run other : List ℕ} (v : Deletable b run other) where
       ∙ ap (λ (r : List ℕ). getD r 0 4294967295) (reverse-append (clusters l) (at-end .info .cluster ∷ [])))
 
   pub last-is : {c : ℕ} (d : Words) → 0 < b .«out_len» .0 → c ≡ getD (clusters (glyphs run)) (b .idx .0) 4294967295 → seen d ≡ at-end → eqb (d .cluster) c ≡ lastHas here
-  unfolding lastHas seen glyphOf
+  unfolding lastHas
   last-is {c} d h ec ed =
       let t : ltb 0 (length (clusters (here .done))) ≡ true = lt-ltb 0 (length (clusters (here .done))) (omega (arith, done-many)) in
-      let f : c ≡ first (clusters (here .rest)) = ec ∙ (cluster-at (glyphs run) (b .idx .0) ∙ sym first-of) in
-      let e : d .cluster ≡ last (clusters (here .done)) = ap (λ (x : Glyph ℕ). x .info .cluster) ed ∙ sym (last-of h) in
+      let f : c ≡ first (clusters (here .rest)) = ec ∙ (cluster-of (glyphs run) (b .idx .0) ∙ sym first-of) in
+      let e : d .cluster ≡ last (clusters (here .done)) = sym (seen-cluster d) ∙ (ap (λ (x : Glyph ℕ). x .info .cluster) ed ∙ sym (last-of h)) in
       (λ k. eqb (e k) (f k)) ∙ sym (ap (λ (x : Bool). x && is (first (clusters (here .rest))) (last (clusters (here .done)))) t)
 
   pub last-none : b .«out_len» .0 ≤ 0 → false ≡ lastHas here
@@ -234,12 +228,13 @@ module _ {b : Buffer} {run other : List ℕ} (v : Deletable b run other) (some-o
   current-is = ap (λ (r : List (Glyph ℕ)). getD (infos r) 0 (blank 0)) (rest-one v) ∙ ap (λ (x : Glyph ℕ). x .info) (sym eg)
 
   current-cluster : (current (accountOf b run other)) .cluster ≡ g .cluster
-  unfolding seen glyphOf
-  current-cluster = ap (λ (x : Info). x .cluster) current-is
+  current-cluster = ap (λ (x : Info). x .cluster) current-is ∙ seen-cluster g
+
+  current-mask : (current (accountOf b run other)) .mask ≡ g .mask
+  current-mask = ap (λ (x : Info). x .mask) current-is ∙ seen-mask g
 
   last-cluster : last (clusters ((accountOf b run other) .done)) ≡ d .cluster
-  unfolding seen glyphOf
-  last-cluster = last-of v some-out ∙ ap (λ (x : Glyph ℕ). x .info .cluster) (sym ed)
+  last-cluster = last-of v some-out ∙ (ap (λ (x : Glyph ℕ). x .info .cluster) (sym ed) ∙ seen-cluster d)
 
   inherits-none : d .cluster ≤ g .cluster → inheriting (accountOf b run other) ≡ accountOf b run other
   unfolding inheriting inherited
@@ -257,13 +252,13 @@ module _ {b : Buffer} {run other : List ℕ} (v : Deletable b run other) (some-o
 
   module _ (h : g .cluster < d .cluster) where
     inherits-some : inheriting (accountOf b run other) ≡ withDone (edit (b .«out_len» .0 - tails (is (d .cluster)) (take (b .«out_len» .0) (clusters outs))) (b .«out_len» .0) becomes (take (b .«out_len» .0) outs)) (accountOf b run other)
-    unfolding inheriting inherited accountOf seen glyphOf
+    unfolding inheriting inherited accountOf
     inherits-some =
         let t : ltb ((current (accountOf b run other)) .cluster) (last (clusters ((accountOf b run other) .done))) ≡ true =
         lt-ltb ((current (accountOf b run other)) .cluster) (last (clusters ((accountOf b run other) .done))) (omega (arith, current-cluster, last-cluster)) in
         let n : length (clusters ((accountOf b run other) .done)) ≡ b .«out_len» .0 = done-many v in
         rw t
-        (λ k. withDone (edit (n k - tails (is (last-cluster k)) (tail-clusters k)) (n k) (setCluster (current-is k .cluster) (current-is k .mask)) ((accountOf b run other) .done)) (accountOf b run other))
+        (λ k. withDone (edit (n k - tails (is (last-cluster k)) (tail-clusters k)) (n k) (setCluster (current-cluster k) (current-mask k)) ((accountOf b run other) .done)) (accountOf b run other))
 
     module _ (run′ other′ : List ℕ) (eo : cond (b .«have_separate_output») (glyphs other′) (glyphs run′) ≡ edit (b .«out_len» .0 - tails (is (d .cluster)) (take (b .«out_len» .0) (clusters outs))) (b .«out_len» .0) becomes outs)
         (er : drop (b .idx .0) (glyphs run′) ≡ drop (b .idx .0) (glyphs run)) where

@@ -4,9 +4,9 @@ use Prim.Native.Nat.{ℕ, suc, _+_, _-_, _≤_, _<_}
 use native.Mathlib.Omega.{arith}
 use borrow.Author.Tests.{le-ltb, lt-ltb, eq-eqb, ne-eqb}
 use lib.{Dec.eqb, Dec.ltb, ListN.length, ListN.take, ListN.getD, Seq.slice, Seq.slice-cons, Seq.slice-empty, Seq.take-suc}
-use Rattle.records.specs.{Phase, WrongPhase, OutOfRange, OverCapacity, Done, No, Limits, Counters.capacityOf, Counters.failed, Counters.grown, Glyphs.Glyph, Glyphs.Info, Glyphs.blank, Ranges.copies, Ranges.infos, View.glyphs, View.glyphOf, View.seen, View.zeroGlyph, View.wordsFrom}
+use Rattle.records.specs.{Phase, WrongPhase, OutOfRange, OverCapacity, Done, No, Limits, Counters.capacityOf, Counters.failed, Counters.grown, Glyphs.Glyph, Glyphs.Info, Glyphs.blank, Ranges.copies, Ranges.infos, View.glyphs, View.seen, View.zeroGlyph, View.wordsFrom}
 use Rattle.records.specs.declared.{Glyph.Glyph as Words}
-use Rattle.records.proofs.{View.length-glyphs, View.glyphs-same, Renaming.append-map}
+use Rattle.records.proofs.{View.length-glyphs, View.glyphs-same, View.seen-number, Renaming.append-map}
 use Rattle.lists.specs.declared.{Buffer.Buffer, Reply.Reply, Room.the-variants.Fits, Room.the-variants.GivesUp, Room.the-variants.Over}
 use Rattle.lists.specs.{Account.Account, Account.outputPhase, Account.withGone, Account.hasOutput, Account.outLen, Account.failing, Account.sized, Contract.MeetsIn, Cursor.dropping, Moving.SyncOutput, Results.refused, Results.accepted, Results.refuse_when_else_, Results.needing, State.accountOf, State.Held, State.roomFor, States.reply, States.withLimitsOf}
 use Rattle.lists.proofs.{Accounts.output-clean, Accounts.output-of, Accounts.limits-of, Accounts.limited-of, Accounts.out-of, Accounts.rest-of, Accounts.held-lengths, Accounts.needing-fits, Accounts.needing-gives-up, Accounts.needing-over, Accounts.fits-within, Calls.in-refused, Calls.in-accepted, Calls.in-call}
@@ -197,8 +197,8 @@ last-within run other k z h e = rw h e
 
 -- a glyph is the one copy of itself
 one-copy : (g : Words) → seen g ∷ [] ≡ copies (seen g .info) (g .glyph ∷ [])
-unfolding copies seen glyphOf
-one-copy g = refl
+unfolding copies
+one-copy g = ap {B = List (Glyph ℕ)} (λ n. record { glyph = n; info = seen g .info } ∷ []) (seen-number g)
 
 -- ---- the model of the copies
 module _ (a : Account ℕ) where
@@ -270,8 +270,7 @@ module _ {b : Buffer} {run other : List ℕ} {r : Reply} (v : Held b run other) 
         (ap (take 1) (rest-first v o h) ∙ (ap {B = List (Glyph ℕ)} (λ x. x ∷ []) (sym e) ∙ one-copy g))) m
 
     pub info-in-writes : {run′ other′ : List ℕ} (g : Words) → MeetsIn (λ capacity a. writesOne (seen g .info) (g .glyph) capacity a) b run other r run′ other′ → MeetsIn (λ capacity a. outputInfo capacity (seen g .glyph) (seen g .info) a) b run other r run′ other′
-    unfolding seen glyphOf
-    info-in-writes g m = in-call (info-writes _ _ (output-of b run other ∙ o) (seen g .glyph) (seen g .info)) m
+    info-in-writes g m = in-call (info-writes _ _ (output-of b run other ∙ o) (seen g .glyph) (seen g .info) ∙ ap (λ (n : ℕ). writesOne (seen g .info) n (capacityOf (length run)) (accountOf b run other)) (seen-number g)) m
 
     pub glyph-in-first : {run′ other′ : List ℕ} (number : ℕ) (g : Words) → b .idx .0 < b .len .0 → seen g ≡ getD (glyphs run) (b .idx .0) zeroGlyph → MeetsIn (λ capacity a. writesOne (seen g .info) number capacity a) b run other r run′ other′ → MeetsIn (λ capacity a. outputGlyph capacity number a) b run other r run′ other′
     glyph-in-first number g h e m =
