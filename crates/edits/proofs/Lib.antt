@@ -14,4 +14,5 @@ pub mod OutMerges
 pub mod Places
 pub mod Renaming
 pub mod Replacements
+pub mod WholeInputs
 pub mod Writings

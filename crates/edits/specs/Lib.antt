@@ -9,3 +9,4 @@ pub mod Groups
 pub mod Holding
 pub mod Plans
 pub mod Acts
+pub mod Wholes

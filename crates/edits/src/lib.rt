@@ -4,6 +4,7 @@ pub mod flags;
 pub mod merges;
 pub mod merging;
 pub mod replacing;
+pub mod whole;
 pub mod writing;
 
 // What a merge of a range changes: m, the cluster of the range's first glyph, the range as it grew, and whether the

@@ -1,0 +1,108 @@
+-- The account of a buffer whose *rest* is the run, and what a call on it leaves.
+use mathlib.Core.{Path._≡_, Path.refl, Path.sym, Path.ap, Path._∙_, Path.subst, Bool.Bool, Bool.true, Bool.false, Bool.cond, Bool._||_, Bool.false≢true, List.List, List.[]}
+use Prim.Native.Nat.{ℕ, _-_, _≤_, _<_}
+use native.Mathlib.Omega.{arith}
+use borrow.Author.Tests.{ltb-false}
+use lib.{Dec.ltb, ListN.length, ListN.take, ListN.drop, Seq.slice}
+use Rattle.records.specs.{Phase, Plain, Output, Positions, Spoiled, WrongPhase, Done, No, Counters.capacityOf, Glyphs.Glyph, View.glyphs, View.placements, View.wordsFrom}
+use Rattle.records.proofs.View.{beyond-glyphs, beyond-placements, whole-same}
+use Rattle.lists.specs.declared.{Buffer.Buffer, Reply.Reply}
+use Rattle.lists.specs.{Account.Account, Account.outputPhase, Account.spoiledPhase, Account.hasOutput, Account.isSpoiled, Account.idx, Account.withRest, Contract.MeetsIn, Results.Result, Results.refused, Results.accepted, State.shown, State.goneOf, State.stateOf, State.accountOf, State.Held, States.reply}
+use Rattle.lists.proofs.{Accounts.output-of, Accounts.spoiled-of, Accounts.idx-of, Accounts.held-lengths, Calls.in-refused, Calls.in-accepted}
+use Rattle.edits.specs.{Acts.Acts, WholeRun.notWhole, Wholes.WholeInput}
+use Rattle.edits.proofs.Holding.{behind-further}
+use Rattle.edits.proofs.MergeCalls.{goneIn}
+
+-- ---- the test
+neither-left : (x y : Bool) → (x || y) ≡ false → x ≡ false
+neither-left true y h = h
+neither-left false y h = refl
+
+neither-right : (x y : Bool) → (x || y) ≡ false → y ≡ false
+neither-right true y h = absurd (false≢true (sym h))
+neither-right false y h = h
+
+abbrev pub wholeTest : Buffer → Bool
+wholeTest b = outputPhase (b .phase) || (spoiledPhase (b .phase) || ltb 0 (b .idx .0))
+
+module _ (o s t : Bool) where
+  pub test-spoiled : o ≡ false → s ≡ true → true ≡ (o || (s || t))
+  test-spoiled h k = rw (h, k)
+
+  pub test-cursor : o ≡ false → s ≡ false → t ≡ (o || (s || t))
+  test-cursor h k = rw (h, k)
+
+module _ {b : Buffer} {run other : List ℕ} (v : Held b run other) where
+  pub whole-test : notWhole (accountOf b run other) ≡ wholeTest b
+  unfolding notWhole
+  whole-test = rw (output-of b run other, spoiled-of b run other) (ap (λ (x : Bool). outputPhase (b .phase) || x) (by-phase (spoiledPhase (b .phase)) refl))
+    where
+      by-phase : (x : Bool) → spoiledPhase (b .phase) ≡ x → (x || ltb 0 (idx (accountOf b run other))) ≡ (x || ltb 0 (b .idx .0))
+      by-phase true h = refl
+      by-phase false h = ap (ltb 0) (idx-of b run other v h)
+
+  pub whole-input : {t : Bool} → t ≡ wholeTest b → t ≡ false → WholeInput b run other
+  whole-input {t} e h =
+      let none : wholeTest b ≡ false = sym e ∙ h in
+      let more : (spoiledPhase (b .phase) || ltb 0 (b .idx .0)) ≡ false = neither-right (outputPhase (b .phase)) _ none in
+      let low : b .idx .0 ≤ 0 = ltb-false 0 (b .idx .0) (neither-right (spoiledPhase (b .phase)) _ more) in
+      record { held = v; plain = neither-left (outputPhase (b .phase)) _ none; clean = neither-left (spoiledPhase (b .phase)) _ more; start = omega arith }
+
+  -- refusal 2
+  pub in-not-whole : {call : ℕ → Account ℕ → Result ℕ} {r : Reply} {t : Bool} → t ≡ wholeTest b → t ≡ true
+      → (notWhole (accountOf b run other) ≡ true → call (capacityOf (length run)) (accountOf b run other) ≡ refused WrongPhase)
+      → r ≡ reply b (No WrongPhase) → MeetsIn call b run other r run other
+  in-not-whole e h k er = in-refused WrongPhase (k (whole-test ∙ (sym e ∙ h))) v er
+
+-- ---- the account
+module _ {b : Buffer} {run other : List ℕ} (w : WholeInput b run other) where
+  pub not-not-whole : notWhole (accountOf b run other) ≡ false
+  not-not-whole = whole-test (w .held) ∙ rw (w .plain, w .clean, w .start)
+
+  pub whole-gone : goneOf b ≡ 0
+  unfolding goneOf
+  whole-gone = by-phase (b .phase) (w .plain) (w .clean)
+    where
+      by-phase : (p : Phase) → outputPhase p ≡ false → spoiledPhase p ≡ false → goneIn p (b .idx .0) (b .len .0) ≡ 0
+      by-phase Plain o s = refl
+      by-phase Output o s = absurd (false≢true (sym o))
+      by-phase Positions o s = refl
+      by-phase Spoiled o s = absurd (false≢true (sym s))
+
+  pub account-whole : accountOf b run other ≡ record { done = []; passed = []; rest = take (b .len .0) (shown (b .phase) run other); state = stateOf b }
+  unfolding accountOf goneOf shown stateOf
+  account-whole = rw (w .held .none (w .plain), whole-gone, w .start)
+
+-- lengths are all that it goes by
+pub whole-lengths : {b : Buffer} {run other run′ other′ : List ℕ} → length run′ ≡ length run → length other′ ≡ length other → WholeInput b run other → WholeInput b run′ other′
+whole-lengths {b} {run} {other} {run′} {other′} lr lo w = record { held = held-lengths b run other run′ other′ lr lo (w .held); plain = w .plain; clean = w .clean; start = w .start }
+
+-- ---- h on *rest*, in the same places
+pub whole-is : {b : Buffer} {run other : List ℕ} (run′ other′ : List ℕ) → WholeInput b run other → length run′ ≡ length run → length other′ ≡ length other
+    → (h : List (Glyph ℕ) → List (Glyph ℕ)) → take (b .len .0) (shown (b .phase) run′ other′) ≡ h (take (b .len .0) (shown (b .phase) run other))
+    → accountOf b run′ other′ ≡ withRest (h ((accountOf b run other) .rest)) (accountOf b run other)
+unfolding withRest
+whole-is {b} {run} {other} run′ other′ w lr lo h e = account-whole (whole-lengths lr lo w) ∙ rw (account-whole w, e)
+
+module _ {b : Buffer} {run other run′ other′ : List ℕ} (w : WholeInput b run other) (lr : length run′ ≡ length run) (lo : length other′ ≡ length other) where
+  module _ (dr : drop (b .len .0) (glyphs run′) ≡ drop (b .len .0) (glyphs run)) (dp : drop (b .len .0) (placements other′) ≡ drop (b .len .0) (placements other)) where
+    pub whole-acts : (h : List (Glyph ℕ) → List (Glyph ℕ)) → take (b .len .0) (shown (b .phase) run′ other′) ≡ h (take (b .len .0) (shown (b .phase) run other)) → Acts (λ a. withRest (h (a .rest)) a) b run other b run′ other′
+    whole-acts h e =
+        let n : ℕ = b .limits .allocated in
+        record {
+          is = whole-is run′ other′ w lr lo h e;
+          size = refl;
+          side = refl;
+          run-beyond = sym (beyond-glyphs n run run′ (w .held .whole) (sym lr) (sym (behind-further (b .len .0) n (glyphs run) (glyphs run′) (w .held .len-in) dr)));
+          other-beyond = sym (beyond-placements n other other′ (whole-same run other (w .held .same) (w .held .whole)) (sym lo) (sym (behind-further (b .len .0) n (placements other) (placements other′) (w .held .len-in) dp)));
+          held = w .held;
+        }
+
+-- a call that was accepted leaves what was done
+pub in-acts : {call : ℕ → Account ℕ → Result ℕ} {h : Account ℕ → Account ℕ} {b f : Buffer} {run other run′ other′ : List ℕ} {r : Reply} → Acts h b run other f run′ other′
+    → call (capacityOf (length run)) (accountOf b run other) ≡ accepted (h (accountOf b run other)) → r ≡ reply f Done → MeetsIn call b run other r run′ other′
+in-acts {call} {h} {b} {f} {run} {other} {run′} {other′} u e er =
+    in-accepted f (u .side)
+    (subst (λ (n : ℕ). wordsFrom n run′ ≡ wordsFrom n run) (sym (u .size)) (u .run-beyond))
+    (subst (λ (n : ℕ). wordsFrom n other′ ≡ wordsFrom n other) (sym (u .size)) (u .other-beyond))
+    (u .held) (e ∙ ap accepted (sym (u .is))) er
