@@ -1,5 +1,5 @@
 // Drives the calls of `lists` over a run of three glyphs, and prints what each answers and leaves.
-mod expected;
+mod codes;
 
 use lists::Buffer;
 use lists::Reply;
@@ -25,7 +25,7 @@ fn shown(r: Reply) -> Buffer {
         }
         Answer::No(why) => {
             io::write_all(1, b"no");
-            field(expected::number(why) as u64);
+            field(codes::number(why) as u64);
         }
     }
     let b = r.buffer;
@@ -110,6 +110,29 @@ fn plain(b: Buffer, first: &mut [u32], second: &mut [u32]) -> Buffer {
     shown(lists::cursor::fresh(b, first, second, 5, 3))
 }
 
+// The cursor over the run: there, too far, back, and `sync` once more than there is output.
+// Each answer is proved before the program runs: an `expect` is a fact of the contracts.
+fn expected() {
+    let mut first = [0u32; 30];
+    let mut second = [0u32; 30];
+    let opened = lists::cursor::clear_output(codes::start(), &first, &second);
+    let far = lists::cursor::next_glyphs(opened.buffer, &mut first, &mut second, 4);
+    let far_answer = far.answer;
+    check::expect(codes::code(far_answer) == 5);
+    let there = lists::cursor::next_glyphs(far.buffer, &mut first, &mut second, 2);
+    let there_answer = there.answer;
+    check::expect(codes::code(there_answer) == 2);
+    let back = lists::cursor::move_to(there.buffer, &mut first, &mut second, 1);
+    let back_answer = back.answer;
+    check::expect(codes::code(back_answer) == 1);
+    let synced = lists::cursor::sync(back.buffer, &mut first, &mut second);
+    let synced_answer = synced.answer;
+    check::expect(codes::code(synced_answer) == 1);
+    let again = lists::cursor::sync(synced.buffer, &mut first, &mut second);
+    let again_answer = again.answer;
+    check::expect(codes::code(again_answer) == 4);
+}
+
 // Puts a glyph at a place, if the slice has it.
 fn put_at(ws: &mut [u32], at: usize, number: u32) {
     if at < records::glyphs::capacity(ws) {
@@ -124,19 +147,19 @@ fn fill(ws: &mut [u32], a: u32, b: u32, c: u32) {
 }
 
 fn main() {
-    expected::expected();
+    expected();
     let mut first = [0u32; 30];
     let mut second = [7u32; 30];
     let short = [0u32; 25];
     fill(&mut first, 64, 65, 66);
-    let b = within(expected::start(), &mut first, &mut second);
+    let b = within(codes::start(), &mut first, &mut second);
     fill(&mut first, 64, 65, 66);
     fill(&mut second, 96, 97, 98);
-    let b = across(expected::start(), &mut first, &mut second);
+    let b = across(codes::start(), &mut first, &mut second);
     print_glyphs(&first);
     print_glyphs(&second);
-    let b = plain(expected::start(), &mut first, &mut second);
+    let b = plain(codes::start(), &mut first, &mut second);
     print_glyphs(&first);
     print_glyphs(&second);
-    let b = shown(lists::cursor::enter(expected::start(), &first, &short));
+    let b = shown(lists::cursor::enter(codes::start(), &first, &short));
 }

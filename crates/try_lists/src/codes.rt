@@ -1,4 +1,4 @@
-// Calls whose answers are proved before the program runs: each `expect` is a fact of the contracts.
+// An answer as a number, and the buffer that the runs start from.
 ghost use mathlib.Core.Path.{_≡_};
 ghost use Rattle.records.specs.Counters.{refusalNumber};
 ghost use Rattle.try_lists.specs.Codes.{codeOf, started};
@@ -23,7 +23,7 @@ pub fn number(why: Refusal) -> u32
 }
 
 // The value; 2 where there is none; 2 and the number of a refusal.
-fn code(a: Answer) -> u32
+pub fn code(a: Answer) -> u32
     ensures { λ r. ⌜ r ≡ codeOf a ⌝ }
 {
     match a {
@@ -50,26 +50,4 @@ pub fn start() -> Buffer
         swapped: false,
         have_separate_output: false,
     }
-}
-
-// The cursor over the run: there, too far, back, and `sync` once more than there is output.
-pub fn expected() {
-    let mut first = [0u32; 30];
-    let mut second = [0u32; 30];
-    let opened = lists::cursor::clear_output(start(), &first, &second);
-    let far = lists::cursor::next_glyphs(opened.buffer, &mut first, &mut second, 4);
-    let far_answer = far.answer;
-    check::expect(code(far_answer) == 5);
-    let there = lists::cursor::next_glyphs(far.buffer, &mut first, &mut second, 2);
-    let there_answer = there.answer;
-    check::expect(code(there_answer) == 2);
-    let back = lists::cursor::move_to(there.buffer, &mut first, &mut second, 1);
-    let back_answer = back.answer;
-    check::expect(code(back_answer) == 1);
-    let synced = lists::cursor::sync(back.buffer, &mut first, &mut second);
-    let synced_answer = synced.answer;
-    check::expect(code(synced_answer) == 1);
-    let again = lists::cursor::sync(synced.buffer, &mut first, &mut second);
-    let again_answer = again.answer;
-    check::expect(code(again_answer) == 4);
 }

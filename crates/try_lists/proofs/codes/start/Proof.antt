@@ -1,8 +1,8 @@
 use Rattle.try_lists.specs.Codes.{started}
 use Rattle.records.specs.Counters.{freshLimits}
 use borrow.Author.Needs.{needs}
-use Rattle.try_lists.proofs.expected.start.Statement.{statement}
-use Rattle.try_lists.proofs.expected.start.Tie as tie
+use Rattle.try_lists.proofs.codes.start.Statement.{statement}
+use Rattle.try_lists.proofs.codes.start.Tie as tie
 
 fresh-requires : tie.Need-fresh-requires
 fresh-requires c κs = search needs

@@ -5,8 +5,8 @@ use native.Mathlib.Omega.{arith}
 use Rattle.records.specs.{Refusal, Contradiction, WrongPhase, OutOfRange, BadOperand, OverCapacity, Unreadable, Counters.refusalNumber}
 use Rattle.try_lists.specs.Codes.{codeOf}
 use borrow.Author.Needs.{needs}
-use Rattle.try_lists.proofs.expected.code.Statement.{statement}
-use Rattle.try_lists.proofs.expected.code.Tie as tie
+use Rattle.try_lists.proofs.codes.code.Statement.{statement}
+use Rattle.try_lists.proofs.codes.code.Tie as tie
 
 number-is-small : (r : Refusal) → refusalNumber r ≤ 6
 unfolding refusalNumber

@@ -1,7 +1,7 @@
 use Rattle.records.specs.Counters.{refusalNumber}
 use borrow.Author.Needs.{needs}
-use Rattle.try_lists.proofs.expected.number.Statement.{statement}
-use Rattle.try_lists.proofs.expected.number.Tie as tie
+use Rattle.try_lists.proofs.codes.number.Statement.{statement}
+use Rattle.try_lists.proofs.codes.number.Tie as tie
 
 enum-told : tie.Need-enum-told
 enum-told c = search needs

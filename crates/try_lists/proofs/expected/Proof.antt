@@ -5,8 +5,8 @@ use mathlib.Core.{Path._≡_, Path.refl, Path.ap, Path._∙_}
 use Rattle.lists.proofs.{Chains.At, Chains.answers, Chains.leaves}
 use Rattle.try_lists.specs.Codes.{codeOf}
 use Rattle.try_lists.proofs.Run.{zeros, a₁, a₂, a₃, a₄, a₅, at-start, far-code, there-code, back-code, synced-code, again-code}
-use Rattle.try_lists.proofs.expected.expected.Statement.{statement}
-use Rattle.try_lists.proofs.expected.expected.Tie as tie
+use Rattle.try_lists.proofs.expected.Statement.{statement}
+use Rattle.try_lists.proofs.expected.Tie as tie
 
 opened : (c : tie.After-clear-output) → At 6 a₁ (c .clear-output .result .buffer) zeros zeros
 unfolding a₁
