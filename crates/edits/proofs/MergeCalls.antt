@@ -4,10 +4,10 @@ use Prim.Native.Nat.{ℕ, _-_, _≤_, _<_}
 use native.Mathlib.Omega.{arith}
 use borrow.Author.Tests.{le-ltb, lt-ltb, ltb-false, eq-eqb, ne-eqb}
 use lib.{Dec.eqb, Dec.ltb, ListN.length, ListN.take, ListN.drop, Seq.slice}
-use Rattle.records.specs.{Phase, Plain, Output, Positions, Spoiled, InputPlace, WrongPhase, OutOfRange, Done, No, Limits, Glyphs.Glyph, Counters.costs, Ranges.clusters, View.glyphs, View.placements, View.wordsFrom}
+use Rattle.records.specs.{Phase, Plain, Output, Positions, Spoiled, InputPlace, WrongPhase, OutOfRange, Done, No, Limits, Glyphs.Glyph, Counters.capacityOf, Counters.costs, Ranges.clusters, View.glyphs, View.placements, View.wordsFrom}
 use Rattle.records.proofs.View.{glyphs-same, whole-same, beyond-glyphs}
 use Rattle.lists.specs.declared.{Buffer.Buffer, Reply.Reply}
-use Rattle.lists.specs.{Account.Account, Account.State, Account.outputPhase, Account.spoiledPhase, Account.isSpoiled, Account.withLimits, Contract.MeetsIn, Results.refused, Results.accepted, Results.refuse_when_else_, State.shown, State.goneOf, State.stateOf, State.accountOf, State.Held, States.reply, States.withLimitsOf}
+use Rattle.lists.specs.{Account.Account, Account.State, Account.outputPhase, Account.spoiledPhase, Account.isSpoiled, Account.withLimits, Contract.MeetsIn, Results.refused, Results.accepted, Results.Result, Results.refuse_when_else_, State.shown, State.goneOf, State.stateOf, State.accountOf, State.Held, States.reply, States.withLimitsOf}
 use Rattle.lists.proofs.{Accounts.spoiled-of, Accounts.len-of, Calls.in-refused, Calls.in-accepted, Calls.in-call}
 use Rattle.edits.specs.{Acts.Acts, Acts.Mergeful, Flags.interior, Flags.sought, Flags.flagInterior, Holding.holds, Holding.paid, Holding.cut, Merging.merge, Merging.merged, Merging.graphemesMerge, Merging.mergeInput, Merging.outsideInput, Plans.InputRange, Plans.InputFrom, Plans.Mergeable, Plans.MergedApart, Plans.MergedWithin, Plans.mergePlan, Plans.mergedRun, Plans.mergedTail}
 use Rattle.edits.proofs.MergeLaws.{mergeable, merged-within}
@@ -122,21 +122,33 @@ module _ {b : Buffer} {run other : List ℕ} (v : Held b run other) where
       )
 
   -- the same without a cost
+  pub acts-both : (h : Account ℕ → Account ℕ) {run′ other′ : List ℕ} → length run′ ≡ length run → length other′ ≡ length other
+      → drop (b .len .0) (glyphs run′) ≡ drop (b .len .0) (glyphs run) → drop (b .«out_len» .0) (glyphs other′) ≡ drop (b .«out_len» .0) (glyphs other)
+      → accountOf b run′ other′ ≡ h (accountOf b run other) → Acts h b run other b run′ other′
+  acts-both h {run′} {other′} lr lo dr d e =
+      let a : ℕ = b .limits .allocated in
+      record {
+        is = e;
+        size = refl;
+        side = refl;
+        run-beyond = sym (beyond-glyphs a run run′ (v .whole) (sym lr) (sym (behind-further (b .len .0) a (glyphs run) (glyphs run′) (v .len-in) dr)));
+        other-beyond = sym (beyond-glyphs a other other′ (whole-same run other (v .same) (v .whole)) (sym lo) (sym (behind-further (b .«out_len» .0) a (glyphs other) (glyphs other′) (v .out-in) d)));
+        held = v;
+      }
+
   pub acts-free : (h : Account ℕ → Account ℕ) {run′ : List ℕ} → length run′ ≡ length run → drop (b .len .0) (glyphs run′) ≡ drop (b .len .0) (glyphs run)
       → accountOf b run′ other ≡ h (accountOf b run other) → (Acts h b run other b run′ other) × (b ≡ withLimitsOf (b .limits) b)
   unfolding withLimitsOf
-  acts-free h {run′} lr dr e =
-      let a : ℕ = b .limits .allocated in (
-        record {
-          is = e;
-          size = refl;
-          side = refl;
-          run-beyond = sym (beyond-glyphs a run run′ (v .whole) (sym lr) (sym (behind-further (b .len .0) a (glyphs run) (glyphs run′) (v .len-in) dr)));
-          other-beyond = refl;
-          held = v;
-        },
-        refl,
-      )
+  acts-free h lr dr e = (acts-both h lr refl dr refl e, refl)
+
+-- a call that was accepted leaves what was done
+pub in-acts : {call : ℕ → Account ℕ → Result ℕ} {h : Account ℕ → Account ℕ} {b f : Buffer} {run other run′ other′ : List ℕ} {r : Reply} → Acts h b run other f run′ other′
+    → call (capacityOf (length run)) (accountOf b run other) ≡ accepted (h (accountOf b run other)) → r ≡ reply f Done → MeetsIn call b run other r run′ other′
+in-acts {call} {h} {b} {f} {run} {other} {run′} {other′} u e er =
+    in-accepted f (u .side)
+    (subst (λ (n : ℕ). wordsFrom n run′ ≡ wordsFrom n run) (sym (u .size)) (u .run-beyond))
+    (subst (λ (n : ℕ). wordsFrom n other′ ≡ wordsFrom n other) (sym (u .size)) (u .other-beyond))
+    (u .held) (e ∙ ap accepted (sym (u .is))) er
 
 -- ---- what the workers ask for, and what they leave
 module _ {b : Buffer} {run other : List ℕ} {s e : ℕ} (v : Mergeful b s e run other) where
@@ -144,12 +156,12 @@ module _ {b : Buffer} {run other : List ℕ} {s e : ℕ} (v : Mergeful b s e run
   unfolding goneOf
   from-gone = record { cursor = gone-before (b .phase) (b .idx .0) (b .len .0) (v .whole); inside = v .held .idx-in; start = v .start }
 
-  range-apart : InputRange (glyphs run) (glyphs other) (b .len .0) (b .«out_len» .0) s e
+  pub range-apart : InputRange (glyphs run) (glyphs other) (b .len .0) (b .«out_len» .0) s e
   range-apart =
       let same : length (glyphs run) ≡ length (glyphs other) = glyphs-same run other (v .held .same) in
       record { order = v .order; end = v .end; fits = omega (arith, v .held .len-in, v .held .all-in); out-fits = omega (arith, v .held .out-in, v .held .all-in) }
 
-  range-within : InputRange (glyphs run) (glyphs run) (b .len .0) (b .«out_len» .0) s e
+  pub range-within : InputRange (glyphs run) (glyphs run) (b .len .0) (b .«out_len» .0) s e
   range-within = record { order = v .order; end = v .end; fits = omega (arith, v .held .len-in, v .held .all-in); out-fits = omega (arith, v .held .out-in, v .held .all-in) }
 
   pub ready-apart : 2 ≤ e - s → Mergeable (glyphs run) (glyphs other) (b .len .0) (b .«out_len» .0) s e
@@ -158,7 +170,7 @@ module _ {b : Buffer} {run other : List ℕ} {s e : ℕ} (v : Mergeful b s e run
   pub ready-within : 2 ≤ e - s → Mergeable (glyphs run) (glyphs run) (b .len .0) (b .«out_len» .0) s e
   ready-within two = mergeable range-within (omega arith)
 
-  out-low : (outputPhase (b .phase) && b .«have_separate_output») ≡ false → b .«out_len» .0 ≤ goneOf b
+  pub out-low : (outputPhase (b .phase) && b .«have_separate_output») ≡ false → b .«out_len» .0 ≤ goneOf b
   unfolding goneOf
   out-low h = out-before (b .phase) (b .«have_separate_output») (b .idx .0) (b .len .0) (b .«out_len» .0) h (v .held .behind) (v .held .none)
 
@@ -185,7 +197,7 @@ module _ {b : Buffer} {run other : List ℕ} {s e : ℕ} (v : Mergeful b s e run
         ∙ (m .account (stateOf b) ∙ ap (merged (s - goneOf b) (e - goneOf b)) (sym (account-within b (b .limits) run other h (v .held .none)))))
 
   -- ---- which of its four ways `merge` goes
-  width : e - goneOf b - (s - goneOf b) ≡ e - s
+  pub width : e - goneOf b - (s - goneOf b) ≡ e - s
   width = omega (arith, v .start, v .order)
 
   way-merge : (a : Account ℕ) (merges : Bool) → 2 ≤ e - s → merges ≡ true → merge merges (s - goneOf b) (e - goneOf b) a ≡ merged (s - goneOf b) (e - goneOf b) a
@@ -218,7 +230,7 @@ module _ {b : Buffer} {run other : List ℕ} {s e : ℕ} (v : Mergeful b s e run
   flag-room two = (omega arith, omega (arith, v .end, v .held .len-in, v .held .all-in))
 
   module _ (bits : ℕ) (run′ : List ℕ) (two : 2 ≤ e - s) (eg : glyphs run′ ≡ interior (b .level) (sought (b .level) (slice s e (clusters (glyphs run)))) bits s e (glyphs run)) where
-    flag-is : accountOf b run′ other ≡ flagInterior bits (s - goneOf b) (e - goneOf b) (accountOf b run other)
+    pub flag-is : accountOf b run′ other ≡ flagInterior bits (s - goneOf b) (e - goneOf b) (accountOf b run other)
     unfolding withLimitsOf withLimits stateOf
     flag-is = by-place (outputPhase (b .phase) && b .«have_separate_output») refl
       where
@@ -231,7 +243,7 @@ module _ {b : Buffer} {run other : List ℕ} {s e : ℕ} (v : Mergeful b s e run
             ∙ (shown-flagged run run′ other from-gone (out-low h) (b .phase) (v .whole) range-within bits (stateOf b) (b .level) two refl eg
             ∙ ap (flagInterior bits (s - goneOf b) (e - goneOf b)) (sym (account-within b (b .limits) run other h (v .held .none))))
 
-    flag-behind : drop (b .len .0) (glyphs run′) ≡ drop (b .len .0) (glyphs run)
+    pub flag-behind : drop (b .len .0) (glyphs run′) ≡ drop (b .len .0) (glyphs run)
     flag-behind = rw eg (interior-behind (b .level) (sought (b .level) (slice s e (clusters (glyphs run)))) bits (b .len .0) s e (glyphs run) (v .order) (flag-room two .1) (v .end))
 
   pub at-flag : {merges : Bool} {run′ : List ℕ} → 2 ≤ e - s → merges ≡ false → e - s ≤ 255 → length run′ ≡ length run
@@ -282,11 +294,11 @@ module _ (merges : ℕ → Bool) (s e : InputPlace) (a : Account ℕ) where
   unfolding mergeInput
   input-level x h = rw h
 
-neither-left : (x y : Bool) → (x || y) ≡ false → x ≡ false
+pub neither-left : (x y : Bool) → (x || y) ≡ false → x ≡ false
 neither-left true y h = h
 neither-left false y h = refl
 
-neither-right : (x y : Bool) → (x || y) ≡ false → y ≡ false
+pub neither-right : (x y : Bool) → (x || y) ≡ false → y ≡ false
 neither-right true y h = absurd (false≢true (sym h))
 neither-right false y h = h
 
@@ -325,12 +337,10 @@ module _ {b : Buffer} {run other : List ℕ} (v : Held b run other) (s e : Input
 
       pub in-merges : {f : Buffer} {run′ other′ : List ℕ} → t ≡ false → Acts (merge merges (s .0 - goneOf b) (e .0 - goneOf b)) b run other f run′ other′ → r ≡ reply f Done
           → MeetsIn (λ capacity a. mergeInput (λ level. merges) s e a) b run other r run′ other′
-      in-merges {f} {run′} {other′} k u er =
-          let br : wordsFrom (f .limits .allocated) run′ ≡ wordsFrom (f .limits .allocated) run = subst (λ (n : ℕ). wordsFrom n run′ ≡ wordsFrom n run) (sym (u .size)) (u .run-beyond) in
-          let bo : wordsFrom (f .limits .allocated) other′ ≡ wordsFrom (f .limits .allocated) other = subst (λ (n : ℕ). wordsFrom n other′ ≡ wordsFrom n other) (sym (u .size)) (u .other-beyond) in
-          in-accepted f (u .side) br bo (u .held)
+      in-merges k u er =
+          in-acts u
           (input-merges (λ level. merges) s e _ (spoiled-of b run other ∙ h) (outside-of ∙ (sym et ∙ k))
-          ∙ (ap (λ (g : ℕ). accepted (merge merges (s .0 - g) (e .0 - g) (accountOf b run other))) gone-of ∙ ap accepted (sym (u .is)))) er
+          ∙ ap (λ (g : ℕ). accepted (merge merges (s .0 - g) (e .0 - g) (accountOf b run other))) gone-of) er
 
   pub in-spoiled : (merges : Bool) {r : Reply} → spoiledPhase (b .phase) ≡ true → r ≡ reply b (No WrongPhase) → MeetsIn (λ capacity a. mergeInput (λ level. merges) s e a) b run other r run other
   in-spoiled merges h er = in-refused WrongPhase (input-spoiled (λ level. merges) s e _ (spoiled-of b run other ∙ h)) v er

@@ -11,7 +11,7 @@ use Rattle.lists.specs.{Account.Account, Account.outputPhase, Account.hasOutput
 use Rattle.lists.proofs.{Accounts.output-of, Accounts.out-of, Calls.in-refused, Calls.in-accepted, Calls.in-call}
 use Rattle.edits.specs.{Acts.Acts, Acts.OutMergeful, Holding.holds, Merging.mergeOut, Merging.mergedOut, Merging.mergeDone, Plans.OutMergeable, Plans.MergedOutApart, Plans.MergedOutWithin}
 use Rattle.edits.proofs.Acting.{shown-output}
-use Rattle.edits.proofs.MergeCalls.{goneIn, account-apart, account-within, acts-paid, acts-free}
+use Rattle.edits.proofs.MergeCalls.{goneIn, account-apart, account-within, acts-paid, acts-free, in-acts}
 
 gone-out : (p : Phase) (i l : ℕ) → outputPhase p ≡ true → goneIn p i l ≡ i
 gone-out Plain i l h = absurd (false≢true h)
@@ -27,12 +27,12 @@ module _ (b : Buffer) (l : Limits) (run other : List ℕ) (o : outputPhase (b .p
   unfolding goneOf
   gone-idx = gone-out (b .phase) (b .idx .0) (b .len .0) o
 
-  out-apart : b .«have_separate_output» ≡ true → accountOf (withLimitsOf l b) run other ≡ holds (glyphs run) (glyphs other) (b .idx .0) (b .idx .0) (b .len .0) (b .«out_len» .0) (withLimits l (stateOf b))
+  pub out-apart : b .«have_separate_output» ≡ true → accountOf (withLimitsOf l b) run other ≡ holds (glyphs run) (glyphs other) (b .idx .0) (b .idx .0) (b .len .0) (b .«out_len» .0) (withLimits l (stateOf b))
   out-apart h =
       account-apart b l run other (both-is (outputPhase (b .phase)) (b .«have_separate_output») true o h)
       ∙ ap (λ (g : ℕ). holds (glyphs run) (glyphs other) g (b .idx .0) (b .len .0) (b .«out_len» .0) (withLimits l (stateOf b))) gone-idx
 
-  out-within : b .«have_separate_output» ≡ false → accountOf (withLimitsOf l b) run other ≡ holds (glyphs run) (glyphs run) (b .idx .0) (b .idx .0) (b .len .0) (b .«out_len» .0) (withLimits l (stateOf b))
+  pub out-within : b .«have_separate_output» ≡ false → accountOf (withLimitsOf l b) run other ≡ holds (glyphs run) (glyphs run) (b .idx .0) (b .idx .0) (b .len .0) (b .«out_len» .0) (withLimits l (stateOf b))
   out-within h =
       account-within b l run other (both-is (outputPhase (b .phase)) (b .«have_separate_output») false o h) (λ n. absurd (false≢true (sym n ∙ o)))
       ∙ (ap (λ (x : List (Glyph ℕ)). holds x x (goneOf b) (b .idx .0) (b .len .0) (b .«out_len» .0) (withLimits l (stateOf b))) (shown-output (b .phase) run other o)
@@ -121,11 +121,9 @@ module _ {b : Buffer} {run other : List ℕ} (v : Held b run other) (s e : DoneP
 
     pub out-in-merges : {f : Buffer} {run′ other′ : List ℕ} → s .0 ≤ e .0 → e .0 ≤ b .«out_len» .0 → Acts (mergeOut merges (s .0) (e .0)) b run other f run′ other′ → r ≡ reply f Done
         → MeetsIn (λ capacity a. mergeDone (λ level. merges) s e a) b run other r run′ other′
-    out-in-merges {f} {run′} {other′} o k u er =
-        let br : wordsFrom (f .limits .allocated) run′ ≡ wordsFrom (f .limits .allocated) run = subst (λ (n : ℕ). wordsFrom n run′ ≡ wordsFrom n run) (sym (u .size)) (u .run-beyond) in
-        let bo : wordsFrom (f .limits .allocated) other′ ≡ wordsFrom (f .limits .allocated) other = subst (λ (n : ℕ). wordsFrom n other′ ≡ wordsFrom n other) (sym (u .size)) (u .other-beyond) in
-        in-accepted f (u .side) br bo (u .held)
-        (done-merges (λ level. merges) s e _ (output-of b run other ∙ h) (rw (le-ltb (e .0) (s .0) o, out-of b run other v, le-ltb (b .«out_len» .0) (e .0) k)) ∙ ap accepted (sym (u .is))) er
+    out-in-merges o k u er =
+        in-acts u
+        (done-merges (λ level. merges) s e _ (output-of b run other ∙ h) (rw (le-ltb (e .0) (s .0) o, out-of b run other v, le-ltb (b .«out_len» .0) (e .0) k))) er
 
 -- the level says whether the call merges
 pub out-at-level : {b : Buffer} {run other : List ℕ} {r : Reply} {run′ other′ : List ℕ} {x : Bool} (merges : ℕ → Bool) (s e : DonePlace) → x ≡ merges (b .level)

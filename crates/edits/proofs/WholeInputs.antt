@@ -11,17 +11,9 @@ use Rattle.lists.specs.{Account.Account, Account.outputPhase, Account.spoiledPh
 use Rattle.lists.proofs.{Accounts.output-of, Accounts.spoiled-of, Accounts.idx-of, Accounts.held-lengths, Calls.in-refused, Calls.in-accepted}
 use Rattle.edits.specs.{Acts.Acts, WholeRun.notWhole, Wholes.WholeInput}
 use Rattle.edits.proofs.Holding.{behind-further}
-use Rattle.edits.proofs.MergeCalls.{goneIn}
+use Rattle.edits.proofs.MergeCalls.{goneIn, neither-left, neither-right}
 
 -- ---- the test
-neither-left : (x y : Bool) → (x || y) ≡ false → x ≡ false
-neither-left true y h = h
-neither-left false y h = refl
-
-neither-right : (x y : Bool) → (x || y) ≡ false → y ≡ false
-neither-right true y h = absurd (false≢true (sym h))
-neither-right false y h = h
-
 abbrev pub wholeTest : Buffer → Bool
 wholeTest b = outputPhase (b .phase) || (spoiledPhase (b .phase) || ltb 0 (b .idx .0))
 
@@ -97,12 +89,3 @@ module _ {b : Buffer} {run other run′ other′ : List ℕ} (w : WholeInput b r
           other-beyond = sym (beyond-placements n other other′ (whole-same run other (w .held .same) (w .held .whole)) (sym lo) (sym (behind-further (b .len .0) n (placements other) (placements other′) (w .held .len-in) dp)));
           held = w .held;
         }
-
--- a call that was accepted leaves what was done
-pub in-acts : {call : ℕ → Account ℕ → Result ℕ} {h : Account ℕ → Account ℕ} {b f : Buffer} {run other run′ other′ : List ℕ} {r : Reply} → Acts h b run other f run′ other′
-    → call (capacityOf (length run)) (accountOf b run other) ≡ accepted (h (accountOf b run other)) → r ≡ reply f Done → MeetsIn call b run other r run′ other′
-in-acts {call} {h} {b} {f} {run} {other} {run′} {other′} u e er =
-    in-accepted f (u .side)
-    (subst (λ (n : ℕ). wordsFrom n run′ ≡ wordsFrom n run) (sym (u .size)) (u .run-beyond))
-    (subst (λ (n : ℕ). wordsFrom n other′ ≡ wordsFrom n other) (sym (u .size)) (u .other-beyond))
-    (u .held) (e ∙ ap accepted (sym (u .is))) er

@@ -4,6 +4,8 @@ pub mod Replaces
 pub mod Deleting
 pub mod Deletes
 pub mod Flags
+pub mod Bounds
+pub mod Marks
 pub mod WholeRun
 pub mod Groups
 pub mod Holding

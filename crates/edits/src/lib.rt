@@ -1,6 +1,12 @@
 // Edits of the shaping buffer. The account of writing, merging, deleting, flags and the whole run stands in specs/.
+use records::DonePlace;
+use records::InputPlace;
+
+pub mod bounds;
 pub mod deleting;
+pub mod flagging;
 pub mod flags;
+pub mod marking;
 pub mod merges;
 pub mod merging;
 pub mod replacing;
@@ -25,4 +31,16 @@ pub struct OutMerge {
     pub from: usize,
     pub to: usize,
     pub head: bool,
+}
+
+// A bound of a flag form in the input.
+pub enum InputBound {
+    Open,
+    At(InputPlace),
+}
+
+// A bound of a flag form in *done*.
+pub enum DoneBound {
+    Open,
+    At(DonePlace),
 }

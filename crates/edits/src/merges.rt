@@ -89,7 +89,7 @@ pub fn graphemes_merge(level: u32) -> bool
 }
 
 // How many glyphs of the input no list shows.
-fn gone(b: Buffer) -> usize
+pub fn gone(b: Buffer) -> usize
     ensures { λ r. ⌜ r ≡ goneOf b ⌝ }
 {
     let phase = b.phase;
