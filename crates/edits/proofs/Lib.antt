@@ -1,6 +1,7 @@
 pub mod Acting
 pub mod BoundLaws
 pub mod Bridge
+pub mod Chaining
 pub mod Deletions
 pub mod Examples
 pub mod Executable
@@ -18,5 +19,7 @@ pub mod OutMerges
 pub mod Places
 pub mod Renaming
 pub mod Replacements
+pub mod SortCalls
+pub mod Sorts
 pub mod WholeInputs
 pub mod Writings

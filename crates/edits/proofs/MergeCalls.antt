@@ -303,7 +303,7 @@ neither-right true y h = absurd (false≢true (sym h))
 neither-right false y h = h
 
 module _ {b : Buffer} {run other : List ℕ} (v : Held b run other) (s e : InputPlace) where
-  abbrev outside : Bool
+  abbrev pub outside : Bool
   outside = ltb (e .0) (s .0) || (ltb (b .len .0) (e .0) || ltb (s .0) (goneOf b))
 
   gone-of : (accountOf b run other) .state .gone ≡ goneOf b
@@ -315,7 +315,7 @@ module _ {b : Buffer} {run other : List ℕ} (v : Held b run other) (s e : Input
   level-of = refl
 
   module _ (h : spoiledPhase (b .phase) ≡ false) where
-    outside-of : outsideInput s e (accountOf b run other) ≡ outside
+    pub outside-of : outsideInput s e (accountOf b run other) ≡ outside
     unfolding outsideInput
     outside-of = rw (len-of b run other v h, gone-of)
 

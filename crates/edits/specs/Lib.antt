@@ -12,3 +12,4 @@ pub mod Holding
 pub mod Plans
 pub mod Acts
 pub mod Wholes
+pub mod Sorts

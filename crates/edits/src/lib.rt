@@ -10,6 +10,7 @@ pub mod marking;
 pub mod merges;
 pub mod merging;
 pub mod replacing;
+pub mod sorting;
 pub mod whole;
 pub mod writing;
 

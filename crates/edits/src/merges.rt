@@ -101,7 +101,7 @@ pub fn gone(b: Buffer) -> usize
     }
 }
 
-fn outside_input(b: Buffer, s: usize, e: usize) -> bool
+pub fn outside_input(b: Buffer, s: usize, e: usize) -> bool
     ensures { λ r. ⌜ r ≡ (ltb e s || (ltb (b .len .0) e || ltb s (goneOf b))) ⌝ }
 {
     if e < s {

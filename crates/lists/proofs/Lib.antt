@@ -6,6 +6,7 @@ pub mod Editing
 pub mod Examples
 pub mod Executable
 pub mod Inner
+pub mod Insertions
 pub mod Moving
 pub mod Renaming
 pub mod Runs

@@ -5,4 +5,5 @@ pub mod State
 pub mod States
 pub mod Contract
 pub mod Copied
+pub mod Insertion
 pub mod Moving

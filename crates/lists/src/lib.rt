@@ -7,8 +7,10 @@ use records::Phase;
 
 pub mod copies;
 pub mod cursor;
+pub mod keys;
 pub mod moves;
 pub mod ranges;
+pub mod rotation;
 pub mod state;
 
 // The state of a buffer, beside the two slices that are lent to every call. specs/State.antt says which account it is.
