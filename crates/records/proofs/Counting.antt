@@ -4,9 +4,17 @@ use Prim.Native.Nat.{ℕ, suc, _+_, _*_, _%_, _≤_, _<_, max}
 use native.Mathlib.Numerals.{add-one}
 use native.Mathlib.Omega.{arith}
 use borrow.Author.Tests.{le-leb, lt-leb, eq-eqb, ne-eqb}
-use lib.{Dec.eqb, Dec.leb}
-use Rattle.records.specs.declared.{Limits.Limits}
-use Rattle.records.specs.Counters.{wrappingSub, isNegative, costs, limited, entered, nextSerial, ligSerial}
+use lib.{Dec.eqb, Dec.leb, Dec.lit≤}
+use Rattle.records.specs.declared.{Limits.Limits, Refusal.Refusal}
+use Rattle.records.specs.declared.Refusal.the-variants.{Contradiction, WrongPhase, OutOfRange, BadOperand, OverCapacity, Unreadable}
+use Rattle.records.specs.Counters.{refusalNumber, wrappingSub, isNegative, costs, limited, entered, nextSerial, ligSerial}
+
+number-is-small : (r : Refusal) → refusalNumber r ≤ 6
+unfolding refusalNumber
+number-is-small r = elim r [ Contradiction ↦ lit≤ tt | WrongPhase ↦ lit≤ tt | OutOfRange ↦ lit≤ tt | BadOperand ↦ lit≤ tt | OverCapacity ↦ lit≤ tt | Unreadable ↦ lit≤ tt ]
+
+pub refusal-small : (r : Refusal) {n : ℕ} → n ≡ refusalNumber r → n ≤ 6
+refusal-small r e = rw e (number-is-small r)
 
 subtracted : (a n r : ℕ) → a < 4294967296 → r < 4294967296 → (r + n % 4294967296) % 4294967296 ≡ a → r ≡ wrappingSub a n
 unfolding wrappingSub

@@ -1,26 +1,11 @@
 // An answer as a number, and the buffer that the runs start from.
 ghost use mathlib.Core.Path.{_≡_};
-ghost use Rattle.records.specs.Counters.{refusalNumber};
 ghost use Rattle.try_lists.specs.Codes.{codeOf, started};
 use lists::Buffer;
 use records::Answer;
 use records::DonePlace;
 use records::InputPlace;
 use records::Phase;
-use records::Refusal;
-
-pub fn number(why: Refusal) -> u32
-    ensures { λ r. ⌜ r ≡ refusalNumber why ⌝ }
-{
-    match why {
-        Refusal::Contradiction => 1,
-        Refusal::WrongPhase => 2,
-        Refusal::OutOfRange => 3,
-        Refusal::BadOperand => 4,
-        Refusal::OverCapacity => 5,
-        Refusal::Unreadable => 6,
-    }
-}
 
 // The value; 2 where there is none; 2 and the number of a refusal.
 pub fn code(a: Answer) -> u32
@@ -29,7 +14,7 @@ pub fn code(a: Answer) -> u32
     match a {
         Answer::Done => 2,
         Answer::Value(v) => v,
-        Answer::No(why) => 2 + number(why),
+        Answer::No(why) => 2 + records::counters::refusal_number(why),
     }
 }
 

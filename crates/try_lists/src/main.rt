@@ -25,7 +25,7 @@ fn shown(r: Reply) -> Buffer {
         }
         Answer::No(why) => {
             io::write_all(1, b"no");
-            field(codes::number(why) as u64);
+            field(records::counters::refusal_number(why) as u64);
         }
     }
     let b = r.buffer;
