@@ -21,10 +21,10 @@ worded c gs = record { call = c; glyphs = gs }
 abbrev second : Read (List ℕ) → ℕ
 second r = elim r [ unreadable ↦ 0 | got ws l ↦ at 1 ws ]
 
-listedRead : (List ℕ → Call) → Read (List ℕ) → Read (Worded ℕ)
+unfoldable pub listedRead : (List ℕ → Call) → Read (List ℕ) → Read (Worded ℕ)
 listedRead k r = elim r [ unreadable ↦ unreadable | got ws l ↦ mapped (λ gs. worded (k ws) gs) (words (at 1 ws) l) ]
 
-continued : ℕ → Read (Worded ℕ) → List (Option (Worded ℕ))
+unfoldable pub continued : ℕ → Read (Worded ℕ) → List (Option (Worded ℕ))
 continued n r = elim r [ unreadable ↦ none ∷ [] | got w l ↦ some w ∷ readUpTo n l ]
 
 -- ---- operands: h puts other bytes for each four, and they read as g of the word

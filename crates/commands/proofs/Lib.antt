@@ -3,3 +3,8 @@ pub mod Renaming
 pub mod Bytes
 pub mod Demand
 pub mod Examples
+pub mod Writes
+pub mod Decimals
+pub mod LineLaws
+pub mod LineExamples
+pub mod Readings

@@ -2,3 +2,5 @@ pub mod Calls
 pub mod Bytes
 pub mod Renaming
 pub mod Demand
+pub mod Lines
+pub mod Reading

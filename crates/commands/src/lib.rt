@@ -1,1 +1,32 @@
-// Commands of the shaping buffer. The account of calls, lists of calls and bytes stands in specs/, with what demand 3 says of them.
+// Commands of the shaping buffer: the reader of bytes, and the printed lines. The account of calls, lists of calls and bytes
+// stands in specs/, with what demand 3 says of them.
+pub mod digits;
+pub mod lines;
+pub mod reader;
+pub mod words;
+
+// A command as it was read: its byte, its first five operands (0 where it has fewer), where glyph numbers of its own
+// start, and where the next command does.
+pub struct Order {
+    pub byte: u8,
+    pub a: u32,
+    pub b: u32,
+    pub c: u32,
+    pub d: u32,
+    pub e: u32,
+    pub numbers: usize,
+    pub next: usize,
+}
+
+// What is read at a place.
+pub enum Reading {
+    Command(Order),
+    Unreadable,
+}
+
+// What follows a command byte: so many operands; or two, and as many glyph numbers as the second says.
+pub enum Operands {
+    Words(usize),
+    Listed,
+    Unknown,
+}

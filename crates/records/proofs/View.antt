@@ -28,6 +28,14 @@ module _ (g : Words) where
   unfolding seen glyphOf
   seen-cluster = refl
 
+  pub seen-var0 : seen g .info .var0 ≡ g .var0
+  unfolding seen glyphOf
+  seen-var0 = refl
+
+  pub seen-var1 : seen g .info .var1 ≡ g .var1
+  unfolding seen glyphOf
+  seen-var1 = refl
+
   pub seen-numbered : (n : ℕ) → seen (record { glyph = n; mask = g .mask; cluster = g .cluster; var0 = g .var0; var1 = g .var1 }) ≡ record { glyph = n; info = seen g .info }
   unfolding seen glyphOf
   seen-numbered n = refl

@@ -1,0 +1,25 @@
+use mathlib.Core.Path.{sym, _∙_}
+use borrow.Author.Tests.{leb-true}
+use Rattle.commands.proofs.Writes.{printed, unprinted}
+use borrow.Author.Needs.{needs}
+use Rattle.commands.proofs.lines.end_line.Statement.{statement}
+use Rattle.commands.proofs.lines.end_line.Tie as tie
+
+has-room-requires : tie.Need-has-room-requires
+has-room-requires c κs = search needs
+
+put-counters-requires : tie.Need-put-counters-requires
+put-counters-requires c κs = leb-true _ _ (sym (c .before .before .has-room .ensures) ∙ c .before .if1 .taken)
+
+same-length : tie.Need-same-length
+same-length c = search needs
+
+returns : tie.Need-returns
+returns c = printed (sym (c .before .before .before .before .before .has-room .ensures) ∙ c .before .before .before .before .if1 .taken) (c .before .before .put-counters .ensures)
+
+returns-2 : tie.Need-returns-2
+returns-2 c = unprinted (sym (c .before .has-room .ensures) ∙ c .if1 .left)
+
+pub end-line-spec : {M : Type 1} → statement M
+end-line-spec =
+    tie.close (tie.spec has-room-requires put-counters-requires same-length returns returns-2)
