@@ -7,9 +7,11 @@ pub mod Examples
 pub mod Executable
 pub mod FlagCalls
 pub mod FlagLaws
+pub mod GroupLaws
 pub mod Holding
 pub mod MarkLaws
 pub mod MergeCalls
+pub mod MergeEach
 pub mod MergeLaws
 pub mod MergePlans
 pub mod OutCalls
@@ -17,6 +19,7 @@ pub mod OutFlagCalls
 pub mod OutFlags
 pub mod OutMerges
 pub mod Places
+pub mod Propagations
 pub mod Renaming
 pub mod Replacements
 pub mod SortCalls

@@ -16,7 +16,7 @@ use Rattle.edits.proofs.MergeLaws.{plan-order, tail-most, merged-within
 use Rattle.edits.proofs.FlagLaws.{flagged-within, flagged-all-within}
 
 -- a change of the words that neither reads nor writes the position
-pub Apart : (Info → Info) → Type 0
+unfoldable pub Apart : (Info → Info) → Type 0
 Apart h = (p : Position) (i : Info) → h (withPosition p i) ≡ withPosition p (h i)
 
 pub set-apart : (c m : ℕ) → Apart (setCluster c m)

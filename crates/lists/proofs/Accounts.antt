@@ -58,6 +58,14 @@ module _ (b : Buffer) (run other : List ℕ) where
   unfolding accountOf stateOf
   limits-of = refl
 
+  pub level-of : (accountOf b run other) .state .level ≡ b .level
+  unfolding accountOf stateOf
+  level-of = refl
+
+  pub wants-of : (accountOf b run other) .state .wants ≡ b .wants
+  unfolding accountOf stateOf
+  wants-of = refl
+
   gone-of : (accountOf b run other) .state .gone ≡ goneOf b
   unfolding accountOf stateOf
   gone-of = refl

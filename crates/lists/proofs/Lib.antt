@@ -5,8 +5,10 @@ pub mod Copying
 pub mod Editing
 pub mod Examples
 pub mod Executable
+pub mod Infos
 pub mod Inner
 pub mod Insertions
+pub mod Joining
 pub mod Moving
 pub mod Renaming
 pub mod Runs

@@ -7,3 +7,4 @@ pub mod Contract
 pub mod Copied
 pub mod Insertion
 pub mod Moving
+pub mod Masks

@@ -7,7 +7,9 @@ use records::Phase;
 
 pub mod copies;
 pub mod cursor;
+pub mod groups;
 pub mod keys;
+pub mod masks;
 pub mod moves;
 pub mod ranges;
 pub mod rotation;

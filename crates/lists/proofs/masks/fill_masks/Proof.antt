@@ -1,0 +1,51 @@
+-- The glyphs from s up to i are changed.
+use Prim.Native.Nat.{_-_}
+use native.Mathlib.Omega.{arith}
+use Rattle.records.specs.Glyphs.{withMask}
+use Rattle.lists.proofs.Editing.{Editing, editing-none, editing-more, editing-done}
+use Rattle.lists.proofs.masks.fill_masks.Statement.{statement}
+use Rattle.lists.proofs.masks.fill_masks.Tie as tie
+
+abbrev Inv-loop : tie.InvT-loop
+Inv-loop ws₀ s e mask i₀ ws i = Editing (withMask mask) ws₀ s e ws i
+
+abbrev μ-loop : tie.MeasureT-loop
+μ-loop ws₀ s e mask i₀ ws i = e - i
+
+loop-holds : tie.Need-loop-holds Inv-loop μ-loop
+loop-holds c = editing-none (c .before .pre .0) (c .before .pre .1)
+
+set-mask-requires : tie.Need-set-mask-requires Inv-loop μ-loop
+set-mask-requires c κs = omega arith
+
+add-i : tie.Need-add-i Inv-loop μ-loop
+add-i c = omega arith
+
+loop-less : tie.Need-loop-less Inv-loop μ-loop
+loop-less c = omega arith
+
+loop-again : tie.Need-loop-again Inv-loop μ-loop
+loop-again c =
+    let call = c .before .before in
+    let turn = call .before .before in
+    editing-more (turn .before .loop .inv) (turn .loop-test .taken) (call .set-mask .ensures) (call .set-mask .kept .0)
+
+same-length : tie.Need-same-length Inv-loop μ-loop
+same-length c = c .before .loop .inv .len
+
+returns : tie.Need-returns Inv-loop μ-loop
+returns c = editing-done (c .before .loop .inv) (c .loop-test .left)
+
+pub fill-masks-spec : {M : Type 1} → statement M
+fill-masks-spec =
+    tie.close
+    (tie.spec
+    Inv-loop
+    μ-loop
+    loop-holds
+    set-mask-requires
+    add-i
+    loop-less
+    loop-again
+    same-length
+    returns)
