@@ -7,7 +7,9 @@ pub mod Examples
 pub mod Executable
 pub mod FlagCalls
 pub mod FlagLaws
+pub mod GraphemeCalls
 pub mod GroupLaws
+pub mod GroupTurns
 pub mod Holding
 pub mod MarkLaws
 pub mod MergeCalls
@@ -18,11 +20,15 @@ pub mod OutCalls
 pub mod OutFlagCalls
 pub mod OutFlags
 pub mod OutMerges
+pub mod PairTurns
 pub mod Places
 pub mod Propagations
+pub mod Regroups
 pub mod Renaming
 pub mod Replacements
+pub mod ReverseCalls
 pub mod SortCalls
 pub mod Sorts
+pub mod TurnParts
 pub mod WholeInputs
 pub mod Writings

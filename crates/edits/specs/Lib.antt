@@ -12,4 +12,5 @@ pub mod Holding
 pub mod Plans
 pub mod Acts
 pub mod Wholes
+pub mod Reversals
 pub mod Sorts

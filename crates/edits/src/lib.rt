@@ -12,6 +12,7 @@ pub mod merges;
 pub mod merging;
 pub mod propagating;
 pub mod replacing;
+pub mod reversing;
 pub mod sorting;
 pub mod whole;
 pub mod writing;

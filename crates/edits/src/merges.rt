@@ -101,6 +101,7 @@ pub fn gone(b: Buffer) -> usize
     }
 }
 
+// Whether s to e is no range of the input that a list shows.
 pub fn outside_input(b: Buffer, s: usize, e: usize) -> bool
     ensures { λ r. ⌜ r ≡ (ltb e s || (ltb (b .len .0) e || ltb s (goneOf b))) ⌝ }
 {

@@ -13,3 +13,4 @@ pub mod Moving
 pub mod Renaming
 pub mod Runs
 pub mod Simple
+pub mod Turns

@@ -8,3 +8,4 @@ pub mod Copied
 pub mod Insertion
 pub mod Moving
 pub mod Masks
+pub mod Turned

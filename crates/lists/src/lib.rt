@@ -12,6 +12,7 @@ pub mod keys;
 pub mod masks;
 pub mod moves;
 pub mod ranges;
+pub mod reversals;
 pub mod rotation;
 pub mod state;
 

@@ -1,0 +1,84 @@
+use borrow.Author.Needs.{needs}
+use Rattle.edits.proofs.WholeInputs.{whole-input, in-not-whole}
+use Rattle.edits.proofs.GraphemeCalls.{graphemes-refused, whole-limits, in-graphemes-bad, in-graphemes-plain, in-graphemes-merged}
+use Rattle.edits.proofs.reversing.reverse_graphemes_in.Statement.{statement}
+use Rattle.edits.proofs.reversing.reverse_graphemes_in.Tie as tie
+
+not-whole-requires : tie.Need-not-whole-requires
+not-whole-requires c κs = search needs
+
+refusal-requires : tie.Need-refusal-requires
+refusal-requires c κs = search needs
+
+returns : tie.Need-returns
+returns c = in-not-whole (c .before .before .before .before .before .pre) (c .before .before .not-whole .ensures) (c .before .if1 .taken) (graphemes-refused _ _ _) (c .refusal .ensures)
+
+refusal-requires-2 : tie.Need-refusal-requires-2
+refusal-requires-2 c κs = search needs
+
+returns-2 : tie.Need-returns-2
+returns-2 c = in-graphemes-bad (whole-input (c .before .before .before .before .before .before .pre) (c .before .before .before .not-whole .ensures) (c .before .before .if1 .left)) _ _ (c .before .if2 .taken) (c .refusal2 .ensures)
+
+merge-each-requires : tie.Need-merge-each-requires
+merge-each-requires c κs = whole-input (c .before .before .before .before .before .before .before .before .before .pre) (c .before .before .before .before .before .before .not-whole .ensures) (c .before .before .before .before .before .if1 .left)
+
+turn-graphemes-requires : tie.Need-turn-graphemes-requires
+turn-graphemes-requires c κs =
+    let each = c .before .before .before .before .before .before .merge-each in
+    let w = whole-input (c .before .before .before .before .before .before .before .before .before .before .before .before .before .before .before .before .pre) (c .before .before .before .before .before .before .before .before .before .before .before .before .before .not-whole .ensures) (c .before .before .before .before .before .before .before .before .before .before .before .before .if1 .left) in
+    whole-limits w (each .ensures .1) (each .ensures .0 .held) (each .kept .1 .0) (each .kept .1 .1 .0)
+
+accepted-requires : tie.Need-accepted-requires
+accepted-requires c κs = search needs
+
+same-length : tie.Need-same-length
+same-length c = search needs
+
+same-length-2 : tie.Need-same-length-2
+same-length-2 c = search needs
+
+returns-3 : tie.Need-returns-3
+returns-3 c =
+    let each = c .before .before .before .before .before .before .before .before .before .before .before .before .merge-each in
+    let turn = c .before .before .before .before .before .turn-graphemes in
+    let w = whole-input (c .before .before .before .before .before .before .before .before .before .before .before .before .before .before .before .before .before .before .before .before .before .before .pre) (c .before .before .before .before .before .before .before .before .before .before .before .before .before .before .before .before .before .before .before .not-whole .ensures) (c .before .before .before .before .before .before .before .before .before .before .before .before .before .before .before .before .before .before .if1 .left) in
+    in-graphemes-merged w _ _ (c .before .before .before .before .before .before .before .before .before .before .before .before .before .before .before .before .before .if2 .left) (c .before .before .before .before .before .before .before .before .before .before .before .before .before .before .before .if3 .taken) (each .ensures .0) (each .ensures .1) (each .kept .1 .0) (each .kept .1 .1 .0) (turn .ensures) (turn .kept .1 .0) (turn .kept .1 .1 .0) (c .accepted .ensures)
+
+turn-graphemes-requires-2 : tie.Need-turn-graphemes-requires-2
+turn-graphemes-requires-2 c κs = whole-input (c .before .before .before .before .before .before .before .before .before .pre) (c .before .before .before .before .before .before .not-whole .ensures) (c .before .before .before .before .before .if1 .left)
+
+accepted-requires-2 : tie.Need-accepted-requires-2
+accepted-requires-2 c κs = search needs
+
+same-length-3 : tie.Need-same-length-3
+same-length-3 c = search needs
+
+same-length-4 : tie.Need-same-length-4
+same-length-4 c = search needs
+
+returns-4 : tie.Need-returns-4
+returns-4 c =
+    let turn = c .before .before .before .before .before .turn-graphemes2 in
+    let w = whole-input (c .before .before .before .before .before .before .before .before .before .before .before .before .before .before .before .pre) (c .before .before .before .before .before .before .before .before .before .before .before .before .not-whole .ensures) (c .before .before .before .before .before .before .before .before .before .before .before .if1 .left) in
+    in-graphemes-plain w _ _ (c .before .before .before .before .before .before .before .before .before .before .if2 .left) (c .before .before .before .before .before .before .before .before .if3 .left) (turn .kept .1 .0) (turn .kept .1 .1 .0) (turn .ensures) (c .accepted2 .ensures)
+
+pub reverse-graphemes-in-spec : {M : Type 1} → statement M
+reverse-graphemes-in-spec =
+    tie.close
+    (tie.spec
+    not-whole-requires
+    refusal-requires
+    returns
+    refusal-requires-2
+    returns-2
+    merge-each-requires
+    turn-graphemes-requires
+    accepted-requires
+    same-length
+    same-length-2
+    returns-3
+    turn-graphemes-requires-2
+    accepted-requires-2
+    same-length-3
+    same-length-4
+    returns-4)
