@@ -11,6 +11,7 @@ pub mod GraphemeCalls
 pub mod GroupLaws
 pub mod GroupTurns
 pub mod Holding
+pub mod Lengths
 pub mod MarkLaws
 pub mod MergeCalls
 pub mod MergeEach
@@ -21,9 +22,12 @@ pub mod OutFlagCalls
 pub mod OutFlags
 pub mod OutMerges
 pub mod PairTurns
+pub mod Pairs
 pub mod Places
+pub mod Placings
 pub mod Propagations
 pub mod Regroups
+pub mod Relabelings
 pub mod Renaming
 pub mod Replacements
 pub mod ReverseCalls

@@ -10,7 +10,7 @@ use Rattle.lists.specs.declared.{Buffer.Buffer, Reply.Reply}
 use Rattle.lists.specs.{Account.Account, Account.input, Account.withInput, Account.withDone, Account.paying, Account.limiting, Contract.MeetsIn, Results.refused, Results.accepted, Results.refuse_when_else_, State.shown, State.goneOf, State.accountOf, State.Held, States.reply, States.withLimitsOf}
 use Rattle.lists.proofs.{Accounts.held-lengths, Accounts.level-of, Calls.in-refused, Infos.words-drop, Infos.words-edit}
 use Rattle.edits.specs.{Acts.Acts, Acts.Mergeful, Flags.interior, Flags.sought, Flags.flagInterior, Groups.sizes, Groups.continues, Groups.mergedEach, Groups.formClusters, Merging.merge, Merging.merged, Merging.mergeStart, Merging.mergeEnd, Merging.graphemesMerge, WholeRun.notWhole, Wholes.WholeInput}
-use Rattle.edits.proofs.{WholeInputs.whole-gone, WholeInputs.whole-lengths, WholeInputs.account-whole, WholeInputs.not-not-whole, WholeInputs.in-acts, GroupLaws.Group, GroupLaws.no-group, GroupLaws.grapheme-group, GroupLaws.graphemes-same}
+use Rattle.edits.proofs.{WholeInputs.whole-gone, WholeInputs.whole-lengths, WholeInputs.account-whole, WholeInputs.not-not-whole, MergeCalls.in-acts, GroupLaws.Group, GroupLaws.no-group, GroupLaws.grapheme-group, GroupLaws.graphemes-same}
 
 -- ---- the changes that leave a key alone
 module _ (slot mask : ℕ) where

@@ -10,7 +10,7 @@ use Rattle.lists.specs.declared.{Buffer.Buffer, Reply.Reply}
 use Rattle.lists.specs.{Account.Account, Account.withRest, Account.spoiledPhase, Contract.MeetsIn, Masks.joinedLow, Results.refused, Results.accepted, Results.refuse_when_else_, State.shown, State.accountOf, States.reply}
 use Rattle.lists.proofs.{Accounts.wants-of, Infos.map-take, Infos.map-drop, Infos.words-edit}
 use Rattle.edits.specs.{Acts.Acts, Groups.sizes, Groups.sameCluster, Groups.joined, Groups.settled, Groups.propagated, Groups.propagateFlags, WholeRun.notWhole, Wholes.WholeInput}
-use Rattle.edits.proofs.{Holding.edit-take, Holding.edit-drop-behind, Holding.slice-take, Places.Apart, Places.paired-edit, WholeInputs.whole-acts, WholeInputs.in-acts, WholeInputs.not-not-whole, GroupLaws.Group, GroupLaws.no-group, GroupLaws.cluster-group, GroupLaws.clusters-same, GroupLaws.seen-words}
+use Rattle.edits.proofs.{Holding.edit-take, Holding.edit-drop-behind, Holding.slice-take, Places.Apart, Places.paired-edit, WholeInputs.whole-acts, MergeCalls.in-acts, WholeInputs.not-not-whole, GroupLaws.Group, GroupLaws.no-group, GroupLaws.cluster-group, GroupLaws.clusters-same, GroupLaws.seen-words}
 
 -- ---- what joined bits become
 abbrev pub tatweeled : ℕ → ℕ

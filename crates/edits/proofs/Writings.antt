@@ -19,7 +19,7 @@ module _ (b : Buffer) (run other : List ℕ) where
   unfolding withLimitsOf
   limits-side l = refl
 
-  failing-of : accountOf (withLimitsOf (failed (b .limits)) b) run other ≡ failing (accountOf b run other)
+  pub failing-of : accountOf (withLimitsOf (failed (b .limits)) b) run other ≡ failing (accountOf b run other)
   unfolding failing
   failing-of = limited-of b run other failed
 
@@ -32,7 +32,7 @@ module _ (b : Buffer) (run other : List ℕ) where
     unfolding withLimitsOf
     held-limits l p q = record { idx-in = v .idx-in; len-in = omega arith; out-in = omega arith; all-in = q; most = v .most; same = v .same; whole = v .whole; behind = v .behind; none = v .none }
 
-    held-failed : Held (withLimitsOf (failed (b .limits)) b) run other
+    pub held-failed : Held (withLimitsOf (failed (b .limits)) b) run other
     unfolding failed
     held-failed = held-limits (failed (b .limits)) (omega arith) (v .all-in)
 

@@ -12,5 +12,6 @@ pub mod Holding
 pub mod Plans
 pub mod Acts
 pub mod Wholes
+pub mod Fills
 pub mod Reversals
 pub mod Sorts

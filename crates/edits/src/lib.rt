@@ -4,6 +4,7 @@ use records::InputPlace;
 
 pub mod bounds;
 pub mod deleting;
+pub mod filling;
 pub mod flagging;
 pub mod flags;
 pub mod grouping;
@@ -11,6 +12,7 @@ pub mod marking;
 pub mod merges;
 pub mod merging;
 pub mod propagating;
+pub mod relabeling;
 pub mod replacing;
 pub mod reversing;
 pub mod sorting;

@@ -1,15 +1,14 @@
 -- Loops that change the glyphs of a range from the first on, and how `edit` goes on by one glyph.
-use mathlib.Core.{Path._≡_, Path.refl, Path.ap, Path.sym, Path._∙_, List.List, List.[], List._∷_, List._++_}
+use mathlib.Core.{Path._≡_, Path.refl, Path.ap, Path.sym, Path._∙_, List.List, List.[], List._∷_}
 use Prim.Native.Nat.{ℕ, zero, suc, _+_, _≤_, _<_, zero-le}
 use native.Mathlib.Nat.{le-of-suc-le-suc, not-suc-le-zero, le-refl}
 use native.Mathlib.Numerals.{add-one}
 use native.Mathlib.Omega.{arith}
-use lib.ListN.{drop, length, getD, set, replicate}
-use Rattle.records.specs.Glyphs.{Glyph, Info, change, zeroPosition}
+use lib.ListN.{length, getD, set}
+use Rattle.records.specs.Glyphs.{Glyph, Info, change}
 use Rattle.records.specs.Ranges.{edit}
-use Rattle.records.specs.View.{glyphs, placements, zeroGlyph}
-use Rattle.records.specs.{Position}
-use Rattle.records.proofs.View.{glyphs-same, placements-same}
+use Rattle.records.specs.View.{glyphs, zeroGlyph}
+use Rattle.records.proofs.View.{glyphs-same}
 
 module _ {G : Type 0} (h : Info → Info) where
   pub edit-empty : (i : ℕ) (l : List (Glyph G)) → edit i i h l ≡ l
@@ -81,38 +80,3 @@ module _ {h : Info → Info} {s e : ℕ} where
   editing-done {ws₀} {ws} {i} v ge =
       let o : i ≡ e = omega arith in
       rw o at (v .is)
-
--- ---- a list that is filled from the front
-module _ {A : Type 0} (v : A) where
-  pub filled-more : (i : ℕ) (l : List A) → i < length l → set (replicate i v ++ drop i l) i v ≡ replicate (suc i) v ++ drop (suc i) l
-  filled-more i [] lt = absurd (not-suc-le-zero lt)
-  filled-more zero (x ∷ l) lt = refl
-  filled-more (suc i) (x ∷ l) lt = ap {B = List A} (λ r. v ∷ r) (filled-more i l (le-of-suc-le-suc lt))
-
--- the first i positions are zero
-pub record Zeroing (ws₀ : List ℕ) (n : ℕ) (ws : List ℕ) (i : ℕ) : Type 0 where
-  pub high : i ≤ n
-  pub fits : n ≤ length (placements ws)
-  pub is : placements ws ≡ replicate i zeroPosition ++ drop i (placements ws₀)
-  pub len : length ws ≡ length ws₀
-
-pub zeroing-none : {ws : List ℕ} {n : ℕ} → n ≤ length (placements ws) → Zeroing ws n ws 0
-zeroing-none {ws} {n} b = record { high = zero-le; fits = b; is = refl; len = refl }
-
-pub zeroing-more : {ws₀ ws ws′ : List ℕ} {n i : ℕ} {p : Position} → Zeroing ws₀ n ws i → i < n
-    → p ≡ zeroPosition → placements ws′ ≡ set (placements ws) i p → length ws′ ≡ length ws → Zeroing ws₀ n ws′ (i + 1)
-zeroing-more {ws₀} {ws} {ws′} {n} {i} {p} v lt ez ep el =
-    let same : length (placements ws) ≡ length (placements ws₀) = placements-same ws ws₀ (v .len) in
-    let same′ : length (placements ws′) ≡ length (placements ws) = placements-same ws′ ws el in
-    let fits : n ≤ length (placements ws) = v .fits in
-    record {
-      high = omega arith;
-      fits = omega arith;
-      is = ep ∙ rw (v .is, ez, add-one) (filled-more zeroPosition i (placements ws₀) (omega arith));
-      len = el ∙ v .len;
-    }
-
-pub zeroing-done : {ws₀ ws : List ℕ} {n i : ℕ} → Zeroing ws₀ n ws i → n ≤ i → placements ws ≡ replicate n zeroPosition ++ drop n (placements ws₀)
-zeroing-done {ws₀} {ws} {n} {i} v ge =
-    let o : i ≡ n = omega arith in
-    rw o at (v .is)

@@ -5,6 +5,7 @@ pub mod Copying
 pub mod Editing
 pub mod Examples
 pub mod Executable
+pub mod Filling
 pub mod Infos
 pub mod Inner
 pub mod Insertions

@@ -5,6 +5,7 @@ pub mod State
 pub mod States
 pub mod Contract
 pub mod Copied
+pub mod Filled
 pub mod Insertion
 pub mod Moving
 pub mod Masks

@@ -7,6 +7,7 @@ use records::Phase;
 
 pub mod copies;
 pub mod cursor;
+pub mod fills;
 pub mod groups;
 pub mod keys;
 pub mod masks;

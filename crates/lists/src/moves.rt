@@ -81,6 +81,6 @@ pub fn zero_positions(b: Buffer, run: &mut [u32], other: &mut [u32]) -> Buffer
     requires { ⌜ Placeable b (now run) (now other) ⌝ }
     ensures { λ r. ⌜ Moves positioned b (now (run .entry)) (now (other .entry)) r (now (run .exit)) (now (other .exit)) ⌝ }
 {
-    super::ranges::zero_positions(other, b.len.0);
+    super::fills::zero_positions(other, 0, b.len.0);
     state::positioned(b)
 }

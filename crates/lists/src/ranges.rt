@@ -1,12 +1,11 @@
 // Ranges of glyphs: searched, and changed glyph by glyph. A range ends before its end.
 ghost use mathlib.Core.Path.{_≡_};
-ghost use mathlib.Core.List.{_++_};
 ghost use Prim.Native.Nat.{_+_, _-_, _≤_};
-ghost use lib.ListN.{length, drop, replicate};
+ghost use lib.ListN.{length};
 ghost use lib.Seq.{slice};
-ghost use Rattle.records.specs.Glyphs.{setCluster, flagged, flaggedUnless, zeroPosition};
+ghost use Rattle.records.specs.Glyphs.{setCluster, flagged, flaggedUnless};
 ghost use Rattle.records.specs.Ranges.{clusters, edit, is, isnt, least, heads, tails};
-ghost use Rattle.records.specs.View.{glyphs, placements};
+ghost use Rattle.records.specs.View.{glyphs};
 
 // The least cluster of a range.
 pub fn least_cluster(ws: &[u32], s: usize, e: usize) -> u32
@@ -117,18 +116,6 @@ pub fn or_masks_unless(ws: &mut [u32], s: usize, e: usize, cluster: u32, bits: u
     let mut i = s;
     while i < e {
         records::glyphs::or_mask_unless(ws, i, cluster, bits);
-        i += 1;
-    }
-}
-
-// The first n positions become zero.
-pub fn zero_positions(ws: &mut [u32], n: usize)
-    requires { ⌜ n ≤ length (placements (now ws)) ⌝ }
-    ensures { λ r. ⌜ placements (now (ws .exit)) ≡ replicate n zeroPosition ++ drop n (placements (now (ws .entry))) ⌝ }
-{
-    let mut i = 0;
-    while i < n {
-        records::positions::put(ws, i, records::positions::zero());
         i += 1;
     }
 }

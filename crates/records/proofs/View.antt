@@ -295,6 +295,12 @@ module _ (ws : List ℕ) (i : ℕ) (h : i < length (glyphs ws)) where
   unfolding change withMask seen glyphs glyphOf
   new-mask m = rw getD-glyphs (put-second glyphOf ws i m h)
 
+  -- the third word alone
+  pub other-cluster : (c : ℕ) → glyphs (set ws (5 * i + 2) c) ≡ set (glyphs ws) i (change (withCluster c) (getD (glyphs ws) i zeroGlyph))
+  unfolding change withCluster seen glyphs glyphOf
+  other-cluster c =
+      ap (λ (l : List ℕ). fives glyphOf (set l (5 * i + 2) c)) (sym (set-getD ws (5 * i + 1) 0)) ∙ rw getD-glyphs (put-two glyphOf ws i _ c h)
+
   pub key-first : (slot m : ℕ) → slot ≡ 0 → bitAnd m (getD ws (5 * i + 3) 0) ≡ key slot m (getD (glyphs ws) i zeroGlyph .info)
   unfolding key seen glyphOf
   key-first slot m e = rw (getD-glyphs, eq-eqb slot 0 e)

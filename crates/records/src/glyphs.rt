@@ -4,7 +4,7 @@ ghost use mathlib.Core.Bool.{true};
 ghost use Prim.Native.Nat.{_+_, _<_, _≤_};
 ghost use lib.ListN.{length, getD, set, take};
 ghost use Rattle.records.specs.Counters.{capacityOf, rightlyLent};
-ghost use Rattle.records.specs.Glyphs.{change, setCluster, withMask, flagged, flaggedUnless, key};
+ghost use Rattle.records.specs.Glyphs.{blank, change, setCluster, withCluster, withMask, flagged, flaggedUnless, key};
 ghost use Rattle.records.specs.Ranges.{clusters};
 ghost use Rattle.records.specs.View.{glyphs, Whole, seen, zeroGlyph, wordsAt, putWords};
 use super::Glyph;
@@ -67,6 +67,19 @@ pub fn put(ws: &mut [u32], i: usize, g: Glyph)
     write(ws, 5 * i, g);
 }
 
+// A glyph with a number and a cluster, and 0 elsewhere.
+pub fn blank(number: u32, cluster: u32) -> Glyph
+    ensures { λ r. ⌜ seen r ≡ record { glyph = number; info = blank cluster } ⌝ }
+{
+    Glyph {
+        glyph: number,
+        mask: 0,
+        cluster: cluster,
+        var0: 0,
+        var1: 0,
+    }
+}
+
 pub fn cluster_at(ws: &[u32], i: usize) -> u32
     requires { ⌜ i < length (glyphs (now ws)) ⌝ }
     ensures { λ r. ⌜ r ≡ getD (clusters (glyphs (now (ws .entry)))) i 4294967295 ⌝ }
@@ -105,6 +118,15 @@ pub fn set_cluster(ws: &mut [u32], i: usize, cluster: u32, mask: u32)
         ws[at] = ws[at] / 8 * 8 + mask % 8;
         ws[to] = cluster;
     }
+}
+
+// Another cluster, and the mask as it was.
+pub fn reset_cluster(ws: &mut [u32], i: usize, cluster: u32)
+    requires { ⌜ i < length (glyphs (now ws)) ⌝ }
+    ensures { λ r. ⌜ glyphs (now (ws .exit)) ≡ set (glyphs (now (ws .entry))) i (change (withCluster cluster) (getD (glyphs (now (ws .entry))) i zeroGlyph)) ⌝ }
+{
+    let to = 5 * i + 2;
+    ws[to] = cluster;
 }
 
 pub fn set_mask(ws: &mut [u32], i: usize, mask: u32)

@@ -1,18 +1,20 @@
--- The first i positions are zero.
+-- The range is zero up to i.
 use Prim.Native.Nat.{_-_}
 use native.Mathlib.Omega.{arith}
-use Rattle.lists.proofs.Editing.{Zeroing, zeroing-none, zeroing-more, zeroing-done}
-use Rattle.lists.proofs.ranges.zero_positions.Statement.{statement}
-use Rattle.lists.proofs.ranges.zero_positions.Tie as tie
+use Rattle.records.specs.Glyphs.{zeroPosition}
+use Rattle.records.specs.View.{placements}
+use Rattle.lists.proofs.Filling.{Filling, filling-none, filling-more, filling-done}
+use Rattle.lists.proofs.fills.zero_positions.Statement.{statement}
+use Rattle.lists.proofs.fills.zero_positions.Tie as tie
 
 abbrev Inv-loop : tie.InvT-loop
-Inv-loop ws₀ n i₀ ws i = Zeroing ws₀ n ws i
+Inv-loop ws₀ s e i₀ ws i = Filling placements zeroPosition ws₀ s e ws i
 
 abbrev μ-loop : tie.MeasureT-loop
-μ-loop ws₀ n i₀ ws i = n - i
+μ-loop ws₀ s e i₀ ws i = e - i
 
 loop-holds : tie.Need-loop-holds Inv-loop μ-loop
-loop-holds c = zeroing-none (c .before .pre)
+loop-holds c = filling-none (c .before .pre .0) (c .before .pre .1)
 
 zero-requires : tie.Need-zero-requires Inv-loop μ-loop
 zero-requires c κs = tt
@@ -30,13 +32,13 @@ loop-again : tie.Need-loop-again Inv-loop μ-loop
 loop-again c =
     let call = c .before .before in
     let turn = call .before .before .before in
-    zeroing-more (turn .before .loop .inv) (turn .loop-test .taken) (call .before .zero .ensures) (call .put .ensures) (call .put .kept .0)
+    filling-more (turn .before .loop .inv) (turn .loop-test .taken) (call .before .zero .ensures) (call .put .ensures) (call .put .kept .0)
 
 same-length : tie.Need-same-length Inv-loop μ-loop
 same-length c = c .before .loop .inv .len
 
 returns : tie.Need-returns Inv-loop μ-loop
-returns c = zeroing-done (c .before .loop .inv) (c .loop-test .left)
+returns c = filling-done (c .before .loop .inv) (c .loop-test .left)
 
 pub zero-positions-spec : {M : Type 1} → statement M
 zero-positions-spec =

@@ -1,0 +1,44 @@
+-- Glyphs with their positions, in parts.
+use mathlib.Core.{Path._≡_, Path.refl, Path.ap, Path._∙_, List.List, List.[], List._∷_, List._++_}
+use Prim.Native.Nat.{ℕ, zero, suc, _<_}
+use native.Mathlib.Nat.{le-of-suc-le-suc, not-suc-le-zero}
+use native.Mathlib.Omega.{arith}
+use lib.ListN.{length, take, getD, set, replicate}
+use lib.Seq.{take-nil}
+use Rattle.records.specs.{Position, Glyphs.Glyph, Glyphs.change, Glyphs.withCluster, Glyphs.withPosition, Glyphs.blank, Glyphs.zeroPosition, Ranges.edit, View.paired}
+use Rattle.edits.specs.{Fills.repositioned, WholeRun.placed, WholeRun.numbered}
+
+pub paired-take : (n : ℕ) (l : List (Glyph ℕ)) (ps : List Position) → take n (paired l ps) ≡ paired (take n l) (take n ps)
+unfolding paired
+paired-take zero l ps = refl
+paired-take (suc n) [] ps = refl
+paired-take (suc n) (g ∷ l) [] = ap {B = List (Glyph ℕ)} (λ r. g ∷ r) (paired-take n l [] ∙ ap (paired (take n l)) (take-nil n))
+paired-take (suc n) (g ∷ l) (p ∷ ps) = ap {B = List (Glyph ℕ)} (λ r. change (withPosition p) g ∷ r) (paired-take n l ps)
+
+pub paired-append : (l m : List (Glyph ℕ)) (ps qs : List Position) → length l ≡ length ps → paired (l ++ m) (ps ++ qs) ≡ paired l ps ++ paired m qs
+unfolding paired
+paired-append [] m [] qs e = refl
+paired-append [] m (p ∷ ps) qs e = absurd (omega (arith, e))
+paired-append (g ∷ l) m [] qs e = absurd (omega (arith, e))
+paired-append (g ∷ l) m (p ∷ ps) qs e = ap {B = List (Glyph ℕ)} (λ r. change (withPosition p) g ∷ r) (paired-append l m ps qs (omega (arith, e)))
+
+-- zero glyphs have the position zero already
+pub paired-zeros : (n : ℕ) → paired (replicate n (record { glyph = 0; info = blank 0 })) (replicate n zeroPosition) ≡ replicate n (record { glyph = 0; info = blank 0 })
+unfolding paired change withPosition blank
+paired-zeros zero = refl
+paired-zeros (suc n) = ap {B = List (Glyph ℕ)} (λ r. record { glyph = 0; info = blank 0 } ∷ r) (paired-zeros n)
+
+pub paired-numbered : (k : ℕ) (l : List (Glyph ℕ)) (ps : List Position) → paired (numbered k l) ps ≡ numbered k (paired l ps)
+unfolding paired numbered change withCluster withPosition
+paired-numbered k [] ps = refl
+paired-numbered k (g ∷ l) [] = ap {B = List (Glyph ℕ)} (λ r. change (withCluster k) g ∷ r) (paired-numbered (suc k) l [])
+paired-numbered k (g ∷ l) (p ∷ ps) = ap {B = List (Glyph ℕ)} (λ r. change (withCluster k) (change (withPosition p) g) ∷ r) (paired-numbered (suc k) l ps)
+
+-- four numbers of one position
+pub paired-placed : (xa ya xo yo i : ℕ) (l : List (Glyph ℕ)) (ps : List Position) → i < length l → i < length ps
+    → paired l (set ps i (repositioned xa ya xo yo (getD ps i zeroPosition))) ≡ edit i (suc i) (placed xa ya xo yo) (paired l ps)
+unfolding paired edit placed repositioned change withPosition
+paired-placed xa ya xo yo i [] ps h k = absurd (not-suc-le-zero h)
+paired-placed xa ya xo yo i (g ∷ l) [] h k = absurd (not-suc-le-zero k)
+paired-placed xa ya xo yo zero (g ∷ l) (p ∷ ps) h k = refl
+paired-placed xa ya xo yo (suc i) (g ∷ l) (p ∷ ps) h k = ap {B = List (Glyph ℕ)} (λ r. change (withPosition p) g ∷ r) (paired-placed xa ya xo yo i l ps (le-of-suc-le-suc h) (le-of-suc-le-suc k))

@@ -1,0 +1,123 @@
+-- `place`: four numbers of one position, on the account.
+use mathlib.Core.{Path._≡_, Path.refl, Path.sym, Path.ap, Path._∙_, Bool.Bool, Bool.true, Bool.false, Bool._&&_, Bool.false≢true, List.List}
+use Prim.Native.Nat.{ℕ, suc, _≤_, _<_, zero-le}
+use native.Mathlib.Omega.{arith}
+use borrow.Author.Tests.{le-leb, lt-leb}
+use lib.{Dec.leb, ListN.length, ListN.take, ListN.drop, ListN.getD, ListN.set, Seq.drop-set-lt}
+use Rattle.records.specs.{Phase, Plain, Output, Positions, Spoiled, InputPlace, Position, WrongPhase, OutOfRange, Done, No, Glyphs.Glyph, Glyphs.Info, Glyphs.zeroPosition, Ranges.edit, View.glyphs, View.placements, View.paired, View.wordsFrom}
+use Rattle.records.proofs.View.{glyphs-same, placements-glyphs, length-paired, beyond-placements, whole-same}
+use Rattle.lists.specs.declared.{Buffer.Buffer, Reply.Reply}
+use Rattle.lists.specs.{Account.Account, Account.State, Account.outputPhase, Account.positionsPhase, Account.spoiledPhase, Account.hasPositions, Account.input, Account.len, Account.withInput, Account.withLimits, Contract.MeetsIn, Results.refused, Results.accepted, Results.refuse_when_else_, State.shown, State.goneOf, State.stateOf, State.accountOf, State.Held, States.reply, States.withLimitsOf}
+use Rattle.lists.proofs.{Accounts.len-of, Calls.in-refused, Calls.in-accepted}
+use Rattle.edits.specs.{Fills.repositioned, Holding.holds, WholeRun.placed, WholeRun.place}
+use Rattle.edits.proofs.Bridge.{input-is, holds-input}
+use Rattle.edits.proofs.Holding.{edit-take}
+use Rattle.edits.proofs.MergeCalls.{account-within, goneIn}
+use Rattle.edits.proofs.Pairs.{paired-placed}
+
+-- ---- phase positions
+positions-clean : (p : Phase) → positionsPhase p ≡ true → spoiledPhase p ≡ false
+positions-clean Plain h = absurd (false≢true h)
+positions-clean Output h = absurd (false≢true h)
+positions-clean Positions h = refl
+positions-clean Spoiled h = absurd (false≢true h)
+
+no-output : (p : Phase) → positionsPhase p ≡ true → outputPhase p ≡ false
+no-output Plain h = refl
+no-output Output h = absurd (false≢true h)
+no-output Positions h = refl
+no-output Spoiled h = refl
+
+pub shown-positions : (p : Phase) (run other : List ℕ) → positionsPhase p ≡ true → shown p run other ≡ paired (glyphs run) (placements other)
+unfolding shown
+shown-positions Plain run other h = absurd (false≢true h)
+shown-positions Output run other h = absurd (false≢true h)
+shown-positions Positions run other h = refl
+shown-positions Spoiled run other h = absurd (false≢true h)
+
+gone-none : (p : Phase) (i l : ℕ) → positionsPhase p ≡ true → goneIn p i l ≡ 0
+gone-none Plain i l h = refl
+gone-none Output i l h = absurd (false≢true h)
+gone-none Positions i l h = refl
+gone-none Spoiled i l h = absurd (false≢true h)
+
+pub positions-of : (b : Buffer) (run other : List ℕ) → hasPositions (accountOf b run other) ≡ positionsPhase (b .phase)
+unfolding hasPositions accountOf stateOf
+positions-of b run other = refl
+
+-- ---- one glyph of the input has other words
+module _ (h : Info → Info) (l l′ : List (Glyph ℕ)) {i idx len : ℕ} (k : State) (inside : idx ≤ len) (fits : len ≤ length l) (at : i < len) where
+  one-edited : l′ ≡ edit i (suc i) h l → holds l′ l′ 0 idx len 0 k ≡ withInput (edit i (suc i) h (input (holds l l 0 idx len 0 k))) (holds l l 0 idx len 0 k)
+  one-edited e =
+      holds-input l l 0 idx len 0 k zero-le inside fits l′ l′ (edit i (suc i) h (input (holds l l 0 idx len 0 k)))
+      (ap (take len) e ∙ (edit-take h i (suc i) len l (omega arith) at ∙ ap (edit i (suc i) h) (sym (input-is l l 0 idx len 0 k zero-le inside fits))))
+      refl
+
+-- ---- a buffer in phase positions
+module _ {b : Buffer} {run other : List ℕ} (v : Held b run other) (h : positionsPhase (b .phase) ≡ true) where
+  length-is : len (accountOf b run other) ≡ b .len .0
+  length-is = len-of b run other v (positions-clean (b .phase) h)
+
+  account-as : (o : List ℕ) → accountOf b run o ≡ holds (paired (glyphs run) (placements o)) (paired (glyphs run) (placements o)) 0 (b .idx .0) (b .len .0) 0 (withLimits (b .limits) (stateOf b))
+  unfolding withLimitsOf goneOf
+  account-as o =
+      let k : State = withLimits (b .limits) (stateOf b) in
+      let pairs : List (Glyph ℕ) = paired (glyphs run) (placements o) in
+      account-within b (b .limits) run o (ap (λ (x : Bool). x && b .«have_separate_output») (no-output (b .phase) h)) (v .none)
+      ∙ (ap (λ (x : List (Glyph ℕ)). holds x x (goneOf b) (b .idx .0) (b .len .0) (b .«out_len» .0) k) (shown-positions (b .phase) run o h)
+      ∙ (ap (λ (g : ℕ). holds pairs pairs g (b .idx .0) (b .len .0) (b .«out_len» .0) k) (gone-none (b .phase) (b .idx .0) (b .len .0) h)
+      ∙ ap (λ (n : ℕ). holds pairs pairs 0 (b .idx .0) (b .len .0) n k) (v .none (no-output (b .phase) h))))
+
+  pub placed-room : (i : ℕ) → i < b .len .0 → i < length (placements other)
+  placed-room i k =
+      let same : length (glyphs run) ≡ length (glyphs other) = glyphs-same run other (v .same) in
+      omega (arith, v .len-in, v .all-in, placements-glyphs other)
+
+-- ---- the call
+pub put-placed : (ps : List Position) (xa ya xo yo i : ℕ) {ps′ : List Position} {p : Position} → p ≡ getD ps i zeroPosition
+    → ps′ ≡ set ps i (record { «x_advance» = xa; «y_advance» = ya; «x_offset» = xo; «y_offset» = yo; var = p .var }) → ps′ ≡ set ps i (repositioned xa ya xo yo (getD ps i zeroPosition))
+unfolding repositioned
+put-placed ps xa ya xo yo i {ps′} {p} eg ep = ep ∙ ap (λ (q : Position). set ps i (repositioned xa ya xo yo q)) eg
+
+module _ (i : InputPlace) (xa ya xo yo : ℕ) where
+  module _ (a : Account ℕ) where
+    place-none : hasPositions a ≡ false → place i xa ya xo yo a ≡ refused WrongPhase
+    unfolding place refuse_when_else_
+    place-none h = rw h
+
+    place-outside : hasPositions a ≡ true → leb (len a) (i .0) ≡ true → place i xa ya xo yo a ≡ refused OutOfRange
+    unfolding place refuse_when_else_
+    place-outside h k = rw (h, k)
+
+    place-inside : hasPositions a ≡ true → leb (len a) (i .0) ≡ false → place i xa ya xo yo a ≡ accepted (withInput (edit (i .0) (suc (i .0)) (placed xa ya xo yo) (input a)) a)
+    unfolding place refuse_when_else_
+    place-inside h k = rw (h, k)
+
+  module _ {b : Buffer} {run other : List ℕ} {r : Reply} (v : Held b run other) where
+    pub in-unplaced : positionsPhase (b .phase) ≡ false → r ≡ reply b (No WrongPhase) → MeetsIn (λ capacity a. place i xa ya xo yo a) b run other r run other
+    in-unplaced h er = in-refused WrongPhase (place-none _ (positions-of b run other ∙ h)) v er
+
+    module _ (h : positionsPhase (b .phase) ≡ true) where
+      pub in-misplaced : b .len .0 ≤ i .0 → r ≡ reply b (No OutOfRange) → MeetsIn (λ capacity a. place i xa ya xo yo a) b run other r run other
+      in-misplaced k er = in-refused OutOfRange (place-outside _ (positions-of b run other ∙ h) (ap (λ (n : ℕ). leb n (i .0)) (length-is v h) ∙ le-leb (b .len .0) (i .0) k)) v er
+
+      pub in-placed : {other′ : List ℕ} → i .0 < b .len .0 → length other′ ≡ length other → placements other′ ≡ set (placements other) (i .0) (repositioned xa ya xo yo (getD (placements other) (i .0) zeroPosition))
+          → r ≡ reply b Done → MeetsIn (λ capacity a. place i xa ya xo yo a) b run other r run other′
+      in-placed {other′} k lo e er =
+          let n : ℕ = b .limits .allocated in
+          let gs : List (Glyph ℕ) = glyphs run in
+          let ps : List Position = placements other in
+          let room : i .0 < length gs = omega (arith, v .len-in, v .all-in) in
+          let fits : b .len .0 ≤ length (paired gs ps) = rw (length-paired gs ps) (omega (arith, v .len-in, v .all-in)) in
+          let pairs : paired gs (placements other′) ≡ edit (i .0) (suc (i .0)) (placed xa ya xo yo) (paired gs ps) =
+          ap (paired gs) e ∙ paired-placed xa ya xo yo (i .0) gs ps room (placed-room v h (i .0) k) in
+          let behind : wordsFrom n other ≡ wordsFrom n other′ =
+          beyond-placements n other other′ (whole-same run other (v .same) (v .whole)) (sym lo) (sym (ap (drop n) e ∙ drop-set-lt n ps (i .0) _ (omega (arith, v .len-in)))) in
+          in-accepted b refl refl (sym behind) v
+          (place-inside _ (positions-of b run other ∙ h) (ap (λ (m : ℕ). leb m (i .0)) (length-is v h) ∙ lt-leb (b .len .0) (i .0) k)
+          ∙ ap accepted
+          (sym
+          (account-as v h other′
+          ∙ (one-edited (placed xa ya xo yo) (paired gs ps) (paired gs (placements other′)) (withLimits (b .limits) (stateOf b)) (v .idx-in) fits k pairs
+          ∙ ap (λ (a : Account ℕ). withInput (edit (i .0) (suc (i .0)) (placed xa ya xo yo) (input a)) a) (sym (account-as v h other))))))
+          er

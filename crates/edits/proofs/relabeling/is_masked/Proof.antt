@@ -1,0 +1,25 @@
+use Rattle.edits.proofs.Relabelings.{masked-everywhere, masked-from, masked-before}
+use borrow.Author.Needs.{needs}
+use Rattle.edits.proofs.relabeling.is_masked.Statement.{statement}
+use Rattle.edits.proofs.relabeling.is_masked.Tie as tie
+
+is-everywhere-requires : tie.Need-is-everywhere-requires
+is-everywhere-requires c κs = search needs
+
+returns : tie.Need-returns
+returns c = let a = c .before .before .args in masked-everywhere (a .start) (a .end) (a .cluster) (c .before .is-everywhere .ensures) (c .if1 .taken)
+
+returns-2 : tie.Need-returns-2
+returns-2 c = let a = c .before .before .before .args in masked-from (a .start) (a .end) (a .cluster) (c .before .before .is-everywhere .ensures) (c .before .if1 .left) (c .if2 .taken)
+
+returns-3 : tie.Need-returns-3
+returns-3 c = let a = c .before .before .before .args in masked-before (a .start) (a .end) (a .cluster) (c .before .before .is-everywhere .ensures) (c .before .if1 .left) (c .if2 .left)
+
+pub is-masked-spec : {M : Type 1} → statement M
+is-masked-spec =
+    tie.close
+    (tie.spec
+    is-everywhere-requires
+    returns
+    returns-2
+    returns-3)

@@ -1,0 +1,150 @@
+// Masks and clusters of the whole run: calls 1A and 1F.
+ghost use mathlib.Core.Path.{_≡_};
+ghost use mathlib.Core.Bool.{_&&_, _||_};
+ghost use mathlib.Core.List.{_++_};
+ghost use Prim.Native.Nat.{_-_, _<_, _≤_};
+ghost use lib.Bits.{bitAnd, bitOr};
+ghost use lib.Dec.{leb, ltb};
+ghost use lib.ListN.{length, take, drop, getD, set};
+ghost use Rattle.records.specs.Glyphs.{change};
+ghost use Rattle.records.specs.Ranges.{edit, is};
+ghost use Rattle.records.specs.View.{glyphs, zeroGlyph};
+ghost use Rattle.lists.specs.State.{Held};
+ghost use Rattle.lists.specs.Contract.{Meets, MeetsIn};
+ghost use Rattle.edits.specs.WholeRun.{masked, setMasks, numbered, resetClusters};
+use super::whole;
+use lists::Buffer;
+use lists::Reply;
+use lists::state;
+use records::Refusal;
+
+// Start 0 and the largest end stand for everywhere.
+fn is_everywhere(start: u32, end: u32) -> bool
+    ensures { λ r. ⌜ r ≡ (is 0 start && is 4294967295 end) ⌝ }
+{
+    if start == 0 {
+        return end == 4294967295;
+    }
+    false
+}
+
+// Whether a glyph of this cluster is masked.
+fn is_masked(cluster: u32, start: u32, end: u32) -> bool
+    ensures { λ r. ⌜ r ≡ ((is 0 start && is 4294967295 end) || (leb start cluster && ltb cluster end)) ⌝ }
+{
+    if is_everywhere(start, end) {
+        return true;
+    }
+    if start <= cluster {
+        return cluster < end;
+    }
+    false
+}
+
+// The bits that mask has come from value, the others stay.
+fn replaced_bits(old: u32, value: u32, mask: u32) -> u32
+    ensures { λ r. ⌜ r ≡ bitOr (old - bitAnd mask old) (bitAnd mask value) ⌝ }
+{
+    (old - (mask & old)) | (mask & value)
+}
+
+fn mask_glyph(ws: &mut [u32], i: usize, value: u32, mask: u32, start: u32, end: u32)
+    requires { ⌜ i < length (glyphs (now ws)) ⌝ }
+    ensures { λ r. ⌜ glyphs (now (ws .exit)) ≡ set (glyphs (now (ws .entry))) i (change (masked value mask start end) (getD (glyphs (now (ws .entry))) i zeroGlyph)) ⌝ }
+{
+    if is_masked(records::glyphs::cluster_at(ws, i), start, end) {
+        let old = records::glyphs::mask_at(ws, i);
+        records::glyphs::set_mask(ws, i, replaced_bits(old, value, mask));
+    }
+}
+
+fn mask_glyphs(ws: &mut [u32], n: usize, value: u32, mask: u32, start: u32, end: u32)
+    requires { ⌜ n ≤ length (glyphs (now ws)) ⌝ }
+    ensures { λ r. ⌜ glyphs (now (ws .exit)) ≡ edit 0 n (masked value mask start end) (glyphs (now (ws .entry))) ⌝ }
+{
+    let mut i = 0;
+    while i < n {
+        mask_glyph(ws, i, value, mask, start, end);
+        i += 1;
+    }
+}
+
+fn set_masks_in(
+    b: Buffer,
+    run: &mut [u32],
+    other: &mut [u32],
+    value: u32,
+    mask: u32,
+    start: u32,
+    end: u32,
+) -> Reply
+    requires { ⌜ Held b (now run) (now other) ⌝ }
+    ensures { λ r. ⌜ MeetsIn (λ capacity a. setMasks value mask start end a) b (now (run .entry)) (now (other .entry)) r (now (run .exit)) (now (other .exit)) ⌝ }
+{
+    if whole::not_whole(b) {
+        return state::refusal(b, Refusal::WrongPhase);
+    }
+    if mask == 0 {
+        return state::accepted(b);
+    }
+    let len = b.len.0;
+    mask_glyphs(run, len, value, mask, start, end);
+    state::accepted(state::with_limits(b, records::counters::pay(b.limits, len)))
+}
+
+// 1A
+pub fn set_masks(
+    b: Buffer,
+    first: &mut [u32],
+    second: &mut [u32],
+    value: u32,
+    mask: u32,
+    start: u32,
+    end: u32,
+) -> Reply
+    ensures { λ r. ⌜ Meets (λ capacity a. setMasks value mask start end a) b (now (first .entry)) (now (second .entry)) r (now (first .exit)) (now (second .exit)) ⌝ }
+{
+    if state::is_sound(b, first, second) {
+        if b.swapped {
+            return set_masks_in(b, second, first, value, mask, start, end);
+        }
+        return set_masks_in(b, first, second, value, mask, start, end);
+    }
+    state::refusal(b, Refusal::Contradiction)
+}
+
+// The first n glyphs get their places as clusters.
+fn number_clusters(ws: &mut [u32], n: usize)
+    requires { ⌜ (n ≤ length (glyphs (now ws))) × (n ≤ 1048576) ⌝ }
+    ensures { λ r. ⌜ glyphs (now (ws .exit)) ≡ numbered 0 (take n (glyphs (now (ws .entry)))) ++ drop n (glyphs (now (ws .entry))) ⌝ }
+{
+    let mut i = 0;
+    while i < n {
+        records::glyphs::reset_cluster(ws, i, i as u32);
+        i += 1;
+    }
+}
+
+fn reset_in(b: Buffer, run: &mut [u32], other: &mut [u32]) -> Reply
+    requires { ⌜ Held b (now run) (now other) ⌝ }
+    ensures { λ r. ⌜ MeetsIn (λ capacity a. resetClusters a) b (now (run .entry)) (now (other .entry)) r (now (run .exit)) (now (other .exit)) ⌝ }
+{
+    if whole::not_whole(b) {
+        return state::refusal(b, Refusal::WrongPhase);
+    }
+    number_clusters(run, b.len.0);
+    state::accepted(b)
+}
+
+// 1F
+pub fn reset_clusters(b: Buffer, first: &mut [u32], second: &mut [u32]) -> Reply
+    ensures { λ r. ⌜ Meets (λ capacity a. resetClusters a) b (now (first .entry)) (now (second .entry)) r (now (first .exit)) (now (second .exit)) ⌝ }
+{
+    if state::is_sound(b, first, second) {
+        if b.swapped {
+            return reset_in(b, second, first);
+        }
+        return reset_in(b, first, second);
+    }
+    state::refusal(b, Refusal::Contradiction)
+}
