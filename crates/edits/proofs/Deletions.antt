@@ -157,7 +157,7 @@ module _ {b : Buffer} {run other : List ℕ} (v : Deletable b run other) {x : Ac
   still : Deletable q run other
   still = record { held = u .held; output = subst (λ (k : Buffer). outputPhase (k .phase) ≡ true) (sym w) (limits-output v (q .limits)); some = still-some }
 
-  pub delete-acts : {r : Buffer} → deleted (accountOf b run other) ≡ dropping 1 (x (accountOf b run other)) → r ≡ atPlaces (q .idx .0 + 1) (q .len .0) (q .«out_len» .0) q → Acts (λ a. deleted a) b run other r run₁ other₁
+  delete-acts : {r : Buffer} → deleted (accountOf b run other) ≡ dropping 1 (x (accountOf b run other)) → r ≡ atPlaces (q .idx .0 + 1) (q .len .0) (q .«out_len» .0) q → Acts (λ a. deleted a) b run other r run₁ other₁
   unfolding atPlaces
   delete-acts e er = rw er (record {
     is = dropping-of q run₁ other₁ (held-lengths q run other run₁ other₁ lr lo (u .held)) (still .output) 1 ∙ (ap (dropping 1) (u .is) ∙ sym e);
@@ -168,7 +168,22 @@ module _ {b : Buffer} {run other : List ℕ} (v : Deletable b run other) {x : Ac
     held = dropped-held still;
   })
 
+  delete-places : {r : Buffer} → r ≡ atPlaces (q .idx .0 + 1) (q .len .0) (q .«out_len» .0) q → r ≡ atPlaces (b .idx .0 + 1) (b .len .0) (b .«out_len» .0) (withLimitsOf (r .limits) b)
+  unfolding atPlaces withLimitsOf
+  delete-places {r} er =
+      er
+      ∙ (ap (λ (k : Buffer). atPlaces (k .idx .0 + 1) (k .len .0) (k .«out_len» .0) k) w
+      ∙ ap (λ (l : Limits). atPlaces (b .idx .0 + 1) (b .len .0) (b .«out_len» .0) (withLimitsOf l b)) (sym (ap (λ (k : Buffer). k .limits) er)))
+
+  pub deletes : {r : Buffer} → (b .«have_separate_output» ≡ false → other₁ ≡ other) → deleted (accountOf b run other) ≡ dropping 1 (x (accountOf b run other)) → r ≡ atPlaces (q .idx .0 + 1) (q .len .0) (q .«out_len» .0) q
+      → (Acts (λ a. deleted a) b run other r run₁ other₁) × (r ≡ atPlaces (b .idx .0 + 1) (b .len .0) (b .«out_len» .0) (withLimitsOf (r .limits) b)) × (b .«have_separate_output» ≡ false → other₁ ≡ other)
+  deletes k e er = (delete-acts e er, delete-places er, k)
+
 module _ {b : Buffer} {run other : List ℕ} (v : Deletable b run other) where
+  -- an output in the run does not lie apart
+  pub not-apart : b .«have_separate_output» ≡ false → (outputPhase (b .phase) && b .«have_separate_output») ≡ false
+  not-apart h = rw (v .output) h
+
   pub stays : Acts (λ a. a) b run other b run other
   stays = record { is = refl; size = refl; side = refl; run-beyond = refl; other-beyond = refl; held = v .held }
 

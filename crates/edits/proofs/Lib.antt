@@ -22,6 +22,7 @@ pub mod OutFlagCalls
 pub mod OutFlags
 pub mod OutMerges
 pub mod PairTurns
+pub mod Pairings
 pub mod Pairs
 pub mod Places
 pub mod Placings
@@ -31,6 +32,8 @@ pub mod Relabelings
 pub mod Renaming
 pub mod Replacements
 pub mod ReverseCalls
+pub mod SiftedRuns
+pub mod Siftings
 pub mod SortCalls
 pub mod Sorts
 pub mod TurnParts

@@ -15,3 +15,4 @@ pub mod Wholes
 pub mod Fills
 pub mod Reversals
 pub mod Sorts
+pub mod Underway

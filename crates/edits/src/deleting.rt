@@ -1,9 +1,10 @@
 // Deletion: call 0F.
 ghost use mathlib.Core.Path.{_≡_};
+ghost use mathlib.Core.Bool.{false};
 ghost use Prim.Native.Nat.{_+_, _<_};
 ghost use Rattle.records.specs.Ranges.{clusters};
 ghost use Rattle.lists.specs.State.{Held, accountOf};
-ghost use Rattle.lists.specs.States.{atPlaces};
+ghost use Rattle.lists.specs.States.{atPlaces, withLimitsOf};
 ghost use Rattle.lists.specs.Contract.{Meets, MeetsIn};
 ghost use Rattle.edits.specs.Deleting.{survives, deleted, deleteGlyph};
 ghost use Rattle.edits.specs.Acts.{Acts};
@@ -54,7 +55,7 @@ fn cluster_survives(b: Buffer, run: &[u32], other: &[u32]) -> bool
 // The equal tail of the output takes the cluster of the glyph at the cursor, where that is lower.
 fn inherit(b: Buffer, run: &mut [u32], other: &mut [u32]) -> Buffer
     requires { ⌜ (Deletable b (now run) (now other)) × (0 < b .«out_len» .0) ⌝ }
-    ensures { λ r. ⌜ (Acts inheriting b (now (run .entry)) (now (other .entry)) r (now (run .exit)) (now (other .exit))) × (r ≡ b) ⌝ }
+    ensures { λ r. ⌜ (Acts inheriting b (now (run .entry)) (now (other .entry)) r (now (run .exit)) (now (other .exit))) × (r ≡ b) × (b .«have_separate_output» ≡ false → now (other .exit) ≡ now (other .entry)) ⌝ }
 {
     let out_len = b.out_len.0;
     let g = records::glyphs::get(run, b.idx.0);
@@ -80,9 +81,9 @@ fn drop_one(b: Buffer) -> Buffer
 }
 
 // The glyph at the cursor goes, and its cluster goes to a neighbour.
-fn delete_one(b: Buffer, run: &mut [u32], other: &mut [u32]) -> Buffer
+pub fn delete_one(b: Buffer, run: &mut [u32], other: &mut [u32]) -> Buffer
     requires { ⌜ Deletable b (now run) (now other) ⌝ }
-    ensures { λ r. ⌜ Acts (λ a. deleted a) b (now (run .entry)) (now (other .entry)) r (now (run .exit)) (now (other .exit)) ⌝ }
+    ensures { λ r. ⌜ (Acts (λ a. deleted a) b (now (run .entry)) (now (other .entry)) r (now (run .exit)) (now (other .exit))) × (r ≡ atPlaces (b .idx .0 + 1) (b .len .0) (b .«out_len» .0) (withLimitsOf (r .limits) b)) × (b .«have_separate_output» ≡ false → now (other .exit) ≡ now (other .entry)) ⌝ }
 {
     if cluster_survives(b, run, other) {
         return drop_one(b);

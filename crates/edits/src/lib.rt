@@ -4,6 +4,7 @@ use records::InputPlace;
 
 pub mod bounds;
 pub mod deleting;
+pub mod deleting_inplace;
 pub mod filling;
 pub mod flagging;
 pub mod flags;

@@ -1,6 +1,6 @@
 // Merging: calls 11 to 14.
 ghost use mathlib.Core.Path.{_≡_};
-ghost use mathlib.Core.Bool.{_&&_, _||_};
+ghost use mathlib.Core.Bool.{false, _&&_, _||_};
 ghost use Prim.Native.Nat.{_-_, _≤_};
 ghost use lib.Dec.{ltb};
 ghost use Rattle.lists.specs.Account.{outputPhase};
@@ -33,7 +33,7 @@ fn lies_apart(b: Buffer) -> bool
 // A merge of at least two glyphs, with what it costs.
 fn merge_lists(b: Buffer, run: &mut [u32], other: &mut [u32], s: usize, e: usize) -> Buffer
     requires { ⌜ (Mergeful b s e (now run) (now other)) × (2 ≤ e - s) ⌝ }
-    ensures { λ r. ⌜ (Acts (merged (s - goneOf b) (e - goneOf b)) b (now (run .entry)) (now (other .entry)) r (now (run .exit)) (now (other .exit))) × (r ≡ withLimitsOf (r .limits) b) ⌝ }
+    ensures { λ r. ⌜ (Acts (merged (s - goneOf b) (e - goneOf b)) b (now (run .entry)) (now (other .entry)) r (now (run .exit)) (now (other .exit))) × (r ≡ withLimitsOf (r .limits) b) × ((outputPhase (b .phase) && b .«have_separate_output») ≡ false → now (other .exit) ≡ now (other .entry)) ⌝ }
 {
     let idx = b.idx.0;
     let len = b.len.0;
@@ -57,7 +57,7 @@ pub fn merge_at(
     e: usize,
 ) -> Buffer
     requires { ⌜ Mergeful b s e (now run) (now other) ⌝ }
-    ensures { λ r. ⌜ (Acts (merge merges (s - goneOf b) (e - goneOf b)) b (now (run .entry)) (now (other .entry)) r (now (run .exit)) (now (other .exit))) × (r ≡ withLimitsOf (r .limits) b) ⌝ }
+    ensures { λ r. ⌜ (Acts (merge merges (s - goneOf b) (e - goneOf b)) b (now (run .entry)) (now (other .entry)) r (now (run .exit)) (now (other .exit))) × (r ≡ withLimitsOf (r .limits) b) × ((outputPhase (b .phase) && b .«have_separate_output») ≡ false → now (other .exit) ≡ now (other .entry)) ⌝ }
 {
     let n = e - s;
     if n < 2 {

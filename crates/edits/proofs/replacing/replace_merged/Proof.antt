@@ -10,10 +10,10 @@ merge-at-requires : tie.Need-merge-at-requires
 merge-at-requires c κs = inputs-mergeful (c .before .before .before .before .before .before .pre .0)
 
 get-requires : tie.Need-get-requires
-get-requires c κs = merged-room (c .before .before .before .before .before .before .before .before .before .before .before .before .pre .0) (c .before .before .before .before .before .merge-at .ensures) (c .before .before .before .before .before .merge-at .kept .1 .0) (c .before .before .before .before .before .merge-at .kept .1 .1 .0) (c .before .before .before .before .before .before .before .before .before .before .before .before .pre .1)
+get-requires c κs = merged-room (c .before .before .before .before .before .before .before .before .before .before .before .before .pre .0) (c .before .before .before .before .before .merge-at .ensures .0, c .before .before .before .before .before .merge-at .ensures .1) (c .before .before .before .before .before .merge-at .kept .1 .0) (c .before .before .before .before .before .merge-at .kept .1 .1 .0) (c .before .before .before .before .before .before .before .before .before .before .before .before .pre .1)
 
 write-copies-requires : tie.Need-write-copies-requires
-write-copies-requires c κs = (merged-writable (c .before .before .before .before .before .before .before .before .before .before .before .before .before .before .before .pre .0) (c .before .before .before .before .before .before .before .before .merge-at .ensures) (c .before .before .before .before .before .before .before .before .merge-at .kept .1 .0) (c .before .before .before .before .before .before .before .before .merge-at .kept .1 .1 .0), c .before .before .before .before .before .before .before .before .before .before .before .before .before .before .before .pre .2)
+write-copies-requires c κs = (merged-writable (c .before .before .before .before .before .before .before .before .before .before .before .before .before .before .before .pre .0) (c .before .before .before .before .before .before .before .before .merge-at .ensures .0, c .before .before .before .before .before .before .before .before .merge-at .ensures .1) (c .before .before .before .before .before .before .before .before .merge-at .kept .1 .0) (c .before .before .before .before .before .before .before .before .merge-at .kept .1 .1 .0), c .before .before .before .before .before .before .before .before .before .before .before .before .before .before .before .pre .2)
 
 same-length : tie.Need-same-length
 same-length c = search needs
@@ -22,7 +22,7 @@ same-length-2 : tie.Need-same-length-2
 same-length-2 c = search needs
 
 returns : tie.Need-returns
-returns c = merged-replaced (c .before .before .before .before .before .before .before .before .before .before .before .before .before .before .before .before .before .before .before .before .pre .0) (c .before .before .before .before .before .before .before .before .before .before .before .before .before .merge-at .ensures) (c .before .before .before .before .before .before .before .before .before .before .before .before .before .merge-at .kept .1 .0) (c .before .before .before .before .before .before .before .before .before .before .before .before .before .merge-at .kept .1 .1 .0) (c .before .before .before .before .before .before .before .before .before .before .before .before .before .before .before .before .before .before .before .before .pre .1) (inputs-places (c .before .before .before .before .before .before .before .before .before .before .before .before .before .before .before .before .before .before .before .before .pre .0)) _ _ (c .before .before .before .before .before .before .before .get .ensures) (c .before .before .before .before .write-copies .ensures)
+returns c = merged-replaced (c .before .before .before .before .before .before .before .before .before .before .before .before .before .before .before .before .before .before .before .before .pre .0) (c .before .before .before .before .before .before .before .before .before .before .before .before .before .merge-at .ensures .0, c .before .before .before .before .before .before .before .before .before .before .before .before .before .merge-at .ensures .1) (c .before .before .before .before .before .before .before .before .before .before .before .before .before .merge-at .kept .1 .0) (c .before .before .before .before .before .before .before .before .before .before .before .before .before .merge-at .kept .1 .1 .0) (c .before .before .before .before .before .before .before .before .before .before .before .before .before .before .before .before .before .before .before .before .pre .1) (inputs-places (c .before .before .before .before .before .before .before .before .before .before .before .before .before .before .before .before .before .before .before .before .pre .0)) _ _ (c .before .before .before .before .before .before .before .get .ensures) (c .before .before .before .before .write-copies .ensures)
 
 pub replace-merged-spec : {M : Type 1} → statement M
 replace-merged-spec =
