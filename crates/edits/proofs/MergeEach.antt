@@ -5,12 +5,12 @@ use native.Mathlib.Nat.{sub-zero}
 use native.Mathlib.Omega.{arith}
 use borrow.Author.Tests.{lt-ltb, le-ltb}
 use lib.{Dec.eqb, Dec.ltb, ListN.take, ListN.drop, ListN.length, Seq.slice, Seq.drop-append-seam}
-use Rattle.records.specs.{Limits, WrongPhase, BadOperand, Done, No, Glyphs.Glyph, Glyphs.Info, Glyphs.withMask, Glyphs.withCluster, Glyphs.setCluster, Glyphs.flagged, Glyphs.flaggedUnless, Glyphs.key, Ranges.infos, Ranges.clusters, Ranges.edit, Ranges.is, Ranges.isnt, Ranges.least, Ranges.first, Ranges.last, Ranges.heads, Ranges.tails, View.glyphs, View.wordsFrom}
+use Rattle.records.specs.{Limits, WrongPhase, BadOperand, Done, No, Glyphs.Glyph, Glyphs.Info, Glyphs.withMask, Glyphs.withCluster, Glyphs.setCluster, Glyphs.flagged, Glyphs.flaggedUnless, Glyphs.key, Ranges.infos, Ranges.clusters, Ranges.edit, Ranges.is, Ranges.isnt, Ranges.least, Ranges.first, Ranges.last, Ranges.heads, Ranges.tails, View.glyphs}
 use Rattle.lists.specs.declared.{Buffer.Buffer, Reply.Reply}
 use Rattle.lists.specs.{Account.Account, Account.input, Account.withInput, Account.withDone, Account.paying, Account.limiting, Contract.MeetsIn, Results.refused, Results.accepted, Results.refuse_when_else_, State.shown, State.goneOf, State.accountOf, State.Held, States.reply, States.withLimitsOf}
-use Rattle.lists.proofs.{Accounts.held-lengths, Accounts.level-of, Calls.in-refused, Infos.words-drop, Infos.words-edit}
+use Rattle.lists.proofs.{Accounts.level-of, Calls.in-refused, Infos.words-drop, Infos.words-edit}
 use Rattle.edits.specs.{Acts.Acts, Acts.Mergeful, Flags.interior, Flags.sought, Flags.flagInterior, Groups.sizes, Groups.continues, Groups.mergedEach, Groups.formClusters, Merging.merge, Merging.merged, Merging.mergeStart, Merging.mergeEnd, Merging.graphemesMerge, WholeRun.notWhole, Wholes.WholeInput}
-use Rattle.edits.proofs.{WholeInputs.whole-gone, WholeInputs.whole-lengths, WholeInputs.account-whole, WholeInputs.not-not-whole, MergeCalls.in-acts, GroupLaws.Group, GroupLaws.no-group, GroupLaws.grapheme-group, GroupLaws.graphemes-same}
+use Rattle.edits.proofs.{Chaining.acts-as, Chaining.acts-then, MergeCalls.in-acts, WholeInputs.whole-gone, WholeInputs.whole-lengths, WholeInputs.account-whole, WholeInputs.not-not-whole, GroupLaws.Group, GroupLaws.no-group, GroupLaws.grapheme-group, GroupLaws.graphemes-same}
 
 -- ---- the changes that leave a key alone
 module _ (slot mask : ℕ) where
@@ -107,9 +107,7 @@ pub record Each (merges : Bool) (slot mask : ℕ) (b : Buffer) (run other : List
   pub same-other : length other′ ≡ length other
   pub high : s ≤ b .len .0
   pub limits : f ≡ withLimitsOf (f .limits) b
-  pub size : f .limits .allocated ≡ b .limits .allocated
-  pub run-beyond : wordsFrom (b .limits .allocated) run′ ≡ wordsFrom (b .limits .allocated) run
-  pub other-beyond : wordsFrom (b .limits .allocated) other′ ≡ wordsFrom (b .limits .allocated) other
+  pub acts : Acts (λ a. accountOf f run′ other′) b run other f run′ other′
   pub is : mergedEach merges (sizes (continues slot mask) (drop s (infos ((accountOf f run′ other′) .rest)))) s (accountOf f run′ other′)
       ≡ mergedEach merges (sizes (continues slot mask) (infos ((accountOf b run other) .rest))) 0 (accountOf b run other)
 
@@ -134,17 +132,13 @@ module _ (l : Limits) (b : Buffer) where
   unfolding withLimitsOf
   limits-len = refl
 
-  limits-side : (withLimitsOf l b) .swapped ≡ b .swapped
-  unfolding withLimitsOf
-  limits-side = refl
-
   pub limits-whole : {run other : List ℕ} → Held (withLimitsOf l b) run other → WholeInput b run other → WholeInput (withLimitsOf l b) run other
   unfolding withLimitsOf
   limits-whole v w = record { held = v; plain = w .plain; clean = w .clean; start = w .start }
 
 module _ {merges : Bool} {slot mask : ℕ} {b : Buffer} {run other : List ℕ} where
   pub each-none : WholeInput b run other → Each merges slot mask b run other b run other 0
-  each-none w = record { whole = w; same-run = refl; same-other = refl; high = omega arith; limits = limits-same b; size = refl; run-beyond = refl; other-beyond = refl; is = refl }
+  each-none w = record { whole = w; same-run = refl; same-other = refl; high = omega arith; limits = limits-same b; acts = record { is = refl; size = refl; side = refl; run-beyond = refl; other-beyond = refl; held = w .held }; is = refl }
 
   module _ {f : Buffer} {run′ other′ : List ℕ} {s : ℕ} (v : Each merges slot mask b run other f run′ other′ s) where
     pub each-len : f .len .0 ≡ b .len .0
@@ -186,9 +180,7 @@ module _ {merges : Bool} {slot mask : ℕ} {b : Buffer} {run other : List ℕ} w
             same-other = lo ∙ v .same-other;
             high = g .inside;
             limits = u .1 ∙ (ap (withLimitsOf (f′ .limits)) (v .limits) ∙ limits-again (f′ .limits) (f .limits) b);
-            size = u .0 .size ∙ v .size;
-            run-beyond = subst (λ (n : ℕ). wordsFrom n run″ ≡ wordsFrom n run′) (v .size) (u .0 .run-beyond) ∙ v .run-beyond;
-            other-beyond = subst (λ (n : ℕ). wordsFrom n other″ ≡ wordsFrom n other′) (v .size) (u .0 .other-beyond) ∙ v .other-beyond;
+            acts = acts-as (acts-then (v .acts) (v .same-run) (v .same-other) (u .0)) (sym (u .0 .is));
             is = ap₂ (λ (ns : List ℕ) (x : Account ℕ). mergedEach merges ns e x) later done
                 ∙ (ap (λ (n : ℕ). mergedEach merges (sizes P (drop e (infos (a .rest)))) n (merge merges s n a)) (sym on)
                 ∙ (sym turned ∙ v .is));
@@ -200,17 +192,8 @@ module _ {merges : Bool} {slot mask : ℕ} {b : Buffer} {run other : List ℕ} w
         let a : Account ℕ = accountOf f run′ other′ in
         let high : s ≤ b .len .0 = v .high in
         let end : s ≡ b .len .0 = omega arith in
-        let none : sizes P (drop s (infos (a .rest))) ≡ [] = rw (rest-is, end) (no-group (f .phase) run′ other′ (v .whole .clean) each-fits P) in (
-          record {
-            is = sym (ap (λ (ns : List ℕ). mergedEach merges ns s a) none ∙ no-merge merges s a) ∙ v .is;
-            size = v .size;
-            side = ap (λ (x : Buffer). x .swapped) (v .limits) ∙ limits-side (f .limits) b;
-            run-beyond = v .run-beyond;
-            other-beyond = v .other-beyond;
-            held = held-lengths f run′ other′ run other (sym (v .same-run)) (sym (v .same-other)) (v .whole .held);
-          },
-          v .limits,
-        )
+        let none : sizes P (drop s (infos (a .rest))) ≡ [] = rw (rest-is, end) (no-group (f .phase) run′ other′ (v .whole .clean) each-fits P) in
+        (acts-as (v .acts) (sym (ap (λ (ns : List ℕ). mergedEach merges ns s a) none ∙ no-merge merges s a) ∙ v .is), v .limits)
 
 -- ---- call 22
 pub form-not-whole : (slot mask : ℕ) (a : Account ℕ) → notWhole a ≡ true → formClusters slot mask a ≡ refused WrongPhase

@@ -31,7 +31,7 @@ loop-again : tie.Need-loop-again Inv-loop μ-loop
 loop-again c =
     let v = c .before .before .before .before .before .before .before .before .before .before .before .loop .inv in
     let call = c .before .before .before .before .merge-at in
-    each-more v (each-group v (c .before .before .before .before .before .before .before .before .before .if1 .taken) (c .before .before .before .before .before .before .before .grapheme-end .ensures)) (call .kept .1 .0) (call .kept .1 .1 .0) (call .ensures)
+    each-more v (each-group v (c .before .before .before .before .before .before .before .before .before .if1 .taken) (c .before .before .before .before .before .before .before .grapheme-end .ensures)) (call .kept .1 .0) (call .kept .1 .1 .0) (call .ensures .0, call .ensures .1)
 
 same-length : tie.Need-same-length Inv-loop μ-loop
 same-length c = c .before .before .loop .inv .same-run
