@@ -4,6 +4,8 @@ mod runs;
 mod scenarios;
 mod scripts;
 mod show;
+mod whole_runs;
+mod wide;
 
 use edits::deleting::delete_glyph;
 use edits::merges::merge_clusters;
@@ -44,4 +46,5 @@ fn expected() {
 fn main() {
     expected();
     scenarios::all();
+    whole_runs::all();
 }

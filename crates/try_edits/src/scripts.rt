@@ -14,7 +14,7 @@ use records::DonePlace;
 use records::InputPlace;
 use records::Refusal;
 
-fn digit(c: u8) -> u32 {
+pub(crate) fn digit(c: u8) -> u32 {
     if c < 48 {
         return 0;
     }

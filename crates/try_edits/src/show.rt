@@ -1,9 +1,9 @@
 // Answers and states in the lines of document 01.
-use super::codes;
 use lists::Buffer;
 use lists::Reply;
 use records::Answer;
 use records::Glyph;
+use records::Position;
 
 fn field(n: u64) {
     io::write_all(1, b" ");
@@ -39,7 +39,7 @@ fn answer_line(a: Answer) {
         }
         Answer::No(why) => {
             io::write_all(1, b" no");
-            field(codes::number(why) as u64);
+            field(records::counters::refusal_number(why) as u64);
         }
     }
     io::write_all(1, b"\n");
@@ -91,13 +91,39 @@ fn end_line(b: Buffer) {
     io::write_all(1, b"\n");
 }
 
-// Passed and rest, or with output only rest.
-fn input_lines(b: Buffer, run: &[u32]) {
+// Four signed words, and the fifth.
+fn position_line(p: Position) {
+    io::write_all(1, b"x");
+    signed_field(p.x_advance);
+    signed_field(p.y_advance);
+    signed_field(p.x_offset);
+    signed_field(p.y_offset);
+    field(p.var as u64);
+    io::write_all(1, b"\n");
+}
+
+fn position_at(ws: &[u32], i: usize) {
+    if i < records::glyphs::capacity(ws) {
+        position_line(records::positions::get(ws, i));
+    }
+}
+
+fn position_lines(ws: &[u32], n: usize) {
+    for i in 0..n {
+        position_at(ws, i);
+    }
+}
+
+// Passed and rest, or with output only rest; positions where there are any.
+fn input_lines(b: Buffer, run: &[u32], other: &[u32]) {
     let phase = b.phase;
     if !lists::state::have_output(phase) {
         glyph_lines(b"p", run, 0, b.idx.0);
     }
     glyph_lines(b"i", run, b.idx.0, b.len.0);
+    if lists::state::have_positions(phase) {
+        position_lines(other, b.len.0);
+    }
 }
 
 // The counters and the lists.
@@ -110,8 +136,8 @@ pub(crate) fn state<'a>(b: Buffer, first: &'a [u32], second: &'a [u32]) {
         b.out_len.0,
     );
     if b.swapped {
-        input_lines(b, second);
+        input_lines(b, second, first);
         return;
     }
-    input_lines(b, first);
+    input_lines(b, first, second);
 }

@@ -1,0 +1,34 @@
+use borrow.Author.Needs.{needs}
+use Prim.Native.Nat.{_≤_, _-_}
+use native.Mathlib.Omega.{arith}
+use Rattle.try_edits.proofs.show.position_lines.Statement.{statement}
+use Rattle.try_edits.proofs.show.position_lines.Tie as tie
+
+abbrev Inv-loop : tie.InvT-loop
+Inv-loop ws n i₀ i = Unit {0}
+
+abbrev μ-loop : tie.MeasureT-loop
+μ-loop ws n i₀ i = n - i
+
+loop-holds : tie.Need-loop-holds Inv-loop μ-loop
+loop-holds c = tt
+
+position-at-requires : tie.Need-position-at-requires Inv-loop μ-loop
+position-at-requires c κs = search needs
+
+add-i : tie.Need-add-i Inv-loop μ-loop
+add-i c = search needs
+
+loop-less : tie.Need-loop-less Inv-loop μ-loop
+loop-less c = omega arith
+
+loop-again : tie.Need-loop-again Inv-loop μ-loop
+loop-again c = tt
+
+returns : tie.Need-returns Inv-loop μ-loop
+returns c = search needs
+
+pub position-lines-spec : {M : Type 1} → statement M
+position-lines-spec =
+    tie.close
+    (tie.spec Inv-loop μ-loop loop-holds position-at-requires add-i loop-less loop-again returns)
