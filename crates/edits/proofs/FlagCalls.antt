@@ -7,7 +7,7 @@ use lib.{Dec.ltb, ListN.length, ListN.drop, Seq.slice}
 use Rattle.records.specs.{Phase, Plain, Output, Positions, Spoiled, InputPlace, WrongPhase, OutOfRange, Done, No, Glyphs.flagged, Ranges.clusters, Ranges.edit, View.glyphs, View.placements}
 use Rattle.lists.specs.declared.{Buffer.Buffer, Reply.Reply}
 use Rattle.lists.specs.{Account.Account, Account.State, Account.outputPhase, Account.spoiledPhase, Account.isSpoiled, Account.len, Account.withLimits, Contract.MeetsIn, Results.Result, Results.refused, Results.accepted, Results.refuse_when_else_, State.shown, State.goneOf, State.stateOf, State.accountOf, State.Held, States.reply, States.withLimitsOf}
-use Rattle.lists.proofs.{Accounts.spoiled-of, Accounts.len-of, Calls.in-refused, Calls.in-accepted, Calls.in-call}
+use Rattle.lists.proofs.{Accounts.spoiled-of, Accounts.len-of, Calls.in-refused, Calls.in-accepted, Calls.in-call, Accounts.gone-of}
 use Rattle.edits.specs.declared.{InputBound.InputBound}
 use Rattle.edits.specs.{Acts.Acts, Acts.Mergeful, Bounds.inputBound, Bounds.inputNumber, Flags.interior, Flags.sought, Flags.flagInterior, Flags.flagAll, Flags.number, Flags.tooFar, Flags.startOf, Flags.endOf, Flags.plainForm, Flags.wantsConcat, Flags.wantsTatweel, Holding.holds, Marks.flaggedRun, Plans.InputRange, Plans.InputFrom}
 use Rattle.edits.proofs.BoundLaws.{end-most}
@@ -117,10 +117,6 @@ pub wanted-far : (w x y : Bool) {t : Bool} → w ≡ true → t ≡ x → t ≡ 
 wanted-far w x y h et k = rw h (sym et ∙ k)
 
 -- ---- the places of a plain form
-gone-of : (b : Buffer) (run other : List ℕ) → goneOf b ≡ (accountOf b run other) .state .gone
-unfolding accountOf stateOf
-gone-of b run other = refl
-
 module _ {b : Buffer} {run other : List ℕ} (v : Held b run other) (e : InputBound) (h : spoiledPhase (b .phase) ≡ false) {j : ℕ} (ej : j ≡ endOf (inputNumber e) (b .len .0)) where
   pub end-is : j ≡ endOf (inputNumber e) (len (accountOf b run other))
   end-is = ej ∙ ap (endOf (inputNumber e)) (sym (len-of b run other v h))
@@ -159,13 +155,13 @@ module _ {b : Buffer} {run other : List ℕ} (v : Held b run other) (interiorly 
       module _ (k : t ≡ false) {i j : ℕ} {o : Bool} (ei : i ≡ startOf (inputNumber s)) (ej : j ≡ endOf (inputNumber e) (b .len .0)) (eo : o ≡ (ltb j i || ltb i (goneOf b))) where
         pub plain-in-outside : o ≡ true → r ≡ reply b (No OutOfRange) → MeetsIn (λ capacity a. plainForm interiorly wanted bits (inputBound s) (inputBound e) a) b run other r run other
         plain-in-outside y er =
-            in-refused OutOfRange (plain-outside interiorly wanted bits (inputBound s) (inputBound e) _ (spoiled-of b run other ∙ h) (wanted-far wanted _ false w et k) ei (end-is v e h ej) (gone-of b run other) (sym eo ∙ y)) v er
+            in-refused OutOfRange (plain-outside interiorly wanted bits (inputBound s) (inputBound e) _ (spoiled-of b run other ∙ h) (wanted-far wanted _ false w et k) ei (end-is v e h ej) (sym (gone-of b run other)) (sym eo ∙ y)) v er
 
         pub plain-in-flags : {run′ : List ℕ} → o ≡ false → length run′ ≡ length run → glyphs run′ ≡ flaggedRun interiorly (b .level) bits i j (glyphs run) → r ≡ reply b Done
             → MeetsIn (λ capacity a. plainForm interiorly wanted bits (inputBound s) (inputBound e) a) b run other r run′ other
         plain-in-flags {run′} n lr eg er =
             in-acts (plain-acts (plain-in-room v e h ej eo n) bits run′ interiorly lr eg)
-            (plain-flags interiorly wanted bits (inputBound s) (inputBound e) _ (spoiled-of b run other ∙ h) (wanted-far wanted _ false w et k) ei (end-is v e h ej) (gone-of b run other) (sym eo ∙ n)) er
+            (plain-flags interiorly wanted bits (inputBound s) (inputBound e) _ (spoiled-of b run other ∙ h) (wanted-far wanted _ false w et k) ei (end-is v e h ej) (sym (gone-of b run other)) (sym eo ∙ n)) er
 
 -- ---- what is wanted says how a call goes on
 pub at-wants : {X : Type 0} {b : Buffer} {run other : List ℕ} {r : Reply} {run′ other′ : List ℕ} {x : X} (form : X → Account ℕ → Result ℕ) (want : ℕ → X) → x ≡ want (b .wants)

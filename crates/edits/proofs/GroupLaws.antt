@@ -8,7 +8,7 @@ use lib.{ListN.take, ListN.drop, ListN.length, ListN.getD, ListN.length-map, Lis
 use Rattle.records.specs.{Phase, Plain, Output, Positions, Spoiled, Position, Glyphs.Glyph, Glyphs.Info, Glyphs.change, Glyphs.withPosition, Glyphs.blank, Glyphs.key, Ranges.infos, Ranges.clusters, Ranges.heads, Ranges.is, Ranges.isnt, View.glyphs, View.placements, View.paired}
 use Rattle.records.proofs.View.{length-paired}
 use Rattle.lists.specs.{Account.spoiledPhase, State.shown}
-use Rattle.lists.proofs.{Runs.heads-le, Infos.map-drop, Infos.words-take, Infos.clusters-infos}
+use Rattle.lists.proofs.{Runs.heads-le, Infos.map-drop, Infos.words-take, Infos.clusters-infos, Accounts.length-shown}
 use Rattle.edits.specs.Groups.{joins, sizes, sameCluster, continues}
 
 -- ---- the first group. In it, p goes by q of f of the glyph that follows
@@ -52,13 +52,6 @@ module _ (f : Info → ℕ) (bare : (p : Position) (i : Info) → f (withPositio
   words-shown Output run other h = refl
   words-shown Positions run other h = words-paired (glyphs run) (placements other)
   words-shown Spoiled run other h = absurd (false≢true (sym h))
-
-pub length-shown : (p : Phase) (run other : List ℕ) → spoiledPhase p ≡ false → length (shown p run other) ≡ length (glyphs run)
-unfolding shown
-length-shown Plain run other h = refl
-length-shown Output run other h = refl
-length-shown Positions run other h = length-paired (glyphs run) (placements other)
-length-shown Spoiled run other h = absurd (false≢true (sym h))
 
 key-bare : (slot mask : ℕ) (p : Position) (i : Info) → key slot mask (withPosition p i) ≡ key slot mask i
 unfolding key withPosition

@@ -6,13 +6,14 @@ use native.Mathlib.Omega.{arith}
 use lib.{ListN.length, ListN.take, ListN.drop, ListN.set, ListN.replicate, Seq.take-all, Seq.take-take, Seq.take-suc-set, Seq.drop-set-lt, Seq.length-take-le}
 use Rattle.records.specs.{Phase, Plain, Output, Positions, Spoiled, Position, Limits, WrongPhase, OverCapacity, Done, Value, No, Glyphs.Glyph, Glyphs.blank, Glyphs.zeroPosition, Counters.capacityOf, Counters.failed, Counters.grown, Ranges.copies, View.glyphs, View.placements, View.paired, View.wordsFrom}
 use Rattle.records.proofs.View.{length-glyphs, glyphs-same, placements-glyphs, length-paired, beyond-glyphs, beyond-placements, whole-same}
+use Rattle.records.proofs.Pairs.{paired-take, paired-append}
 use Rattle.lists.specs.declared.{Buffer.Buffer, Reply.Reply, Room.the-variants.Fits, Room.the-variants.GivesUp, Room.the-variants.Over}
 use Rattle.lists.specs.{Account.Account, Account.positionsPhase, Account.spoiledPhase, Account.hasPositions, Account.len, Account.limiting, Account.sized, Account.failing, Account.withLimits, Account.withRest, Contract.MeetsIn, Filled.filled, Results.refused, Results.accepted, Results.answered, Results.refuse_when_else_, Results.needing, State.shown, State.goneOf, State.stateOf, State.accountOf, State.Held, State.roomFor, States.reply, States.atPlaces, States.withLimitsOf}
-use Rattle.lists.proofs.{Accounts.limits-of, Accounts.len-of, Accounts.fits-within, Accounts.needing-fits, Accounts.needing-gives-up, Accounts.needing-over, Calls.in-refused, Calls.in-accepted, Calls.in-answered, Filling.take-filled, Filling.drop-filled}
+use Rattle.lists.proofs.{Accounts.limits-of, Accounts.len-of, Accounts.fits-within, Accounts.needing-fits, Accounts.needing-gives-up, Accounts.needing-over, Calls.in-refused, Calls.in-accepted, Calls.in-answered, Filling.take-filled, Filling.drop-filled, Accounts.positions-of}
 use Rattle.edits.specs.{Fills.longerBuffer, Fills.Lengthened, WholeRun.notWhole, WholeRun.push, WholeRun.setLength, Wholes.WholeInput}
 use Rattle.edits.proofs.Holding.{behind-further, same-account}
-use Rattle.edits.proofs.Pairs.{paired-take, paired-append, paired-zeros}
-use Rattle.edits.proofs.Placings.{positions-of, shown-positions}
+use Rattle.edits.proofs.Pairs.{paired-zeros}
+use Rattle.edits.proofs.Placings.{shown-positions}
 use Rattle.edits.proofs.WholeInputs.{wholeTest, not-not-whole, in-not-whole, whole-gone, account-whole, whole-lengths}
 use Rattle.edits.proofs.Writings.{limits-side, failing-of, held-failed}
 

@@ -8,7 +8,7 @@ use Rattle.records.specs.{Phase, Plain, Output, Positions, Spoiled, InputPlace,
 use Rattle.records.proofs.View.{glyphs-same, whole-same, beyond-glyphs}
 use Rattle.lists.specs.declared.{Buffer.Buffer, Reply.Reply}
 use Rattle.lists.specs.{Account.Account, Account.State, Account.outputPhase, Account.spoiledPhase, Account.isSpoiled, Account.withLimits, Contract.MeetsIn, Results.refused, Results.accepted, Results.Result, Results.refuse_when_else_, State.shown, State.goneOf, State.stateOf, State.accountOf, State.Held, States.reply, States.withLimitsOf}
-use Rattle.lists.proofs.{Accounts.spoiled-of, Accounts.len-of, Calls.in-refused, Calls.in-accepted, Calls.in-call}
+use Rattle.lists.proofs.{Accounts.spoiled-of, Accounts.len-of, Calls.in-refused, Calls.in-accepted, Calls.in-call, Accounts.gone-of}
 use Rattle.edits.specs.{Acts.Acts, Acts.Mergeful, Flags.interior, Flags.sought, Flags.flagInterior, Holding.holds, Holding.paid, Holding.cut, Merging.merge, Merging.merged, Merging.graphemesMerge, Merging.mergeInput, Merging.outsideInput, Plans.InputRange, Plans.InputFrom, Plans.Mergeable, Plans.MergedApart, Plans.MergedWithin, Plans.mergePlan, Plans.mergedRun, Plans.mergedTail}
 use Rattle.edits.proofs.MergeLaws.{mergeable, merged-within}
 use Rattle.edits.proofs.FlagLaws.{flagged-held, flagged-within, interior-behind}
@@ -306,18 +306,10 @@ module _ {b : Buffer} {run other : List ℕ} (v : Held b run other) (s e : Input
   abbrev pub outside : Bool
   outside = ltb (e .0) (s .0) || (ltb (b .len .0) (e .0) || ltb (s .0) (goneOf b))
 
-  gone-of : (accountOf b run other) .state .gone ≡ goneOf b
-  unfolding accountOf stateOf
-  gone-of = refl
-
-  level-of : (accountOf b run other) .state .level ≡ b .level
-  unfolding accountOf stateOf
-  level-of = refl
-
   module _ (h : spoiledPhase (b .phase) ≡ false) where
     pub outside-of : outsideInput s e (accountOf b run other) ≡ outside
     unfolding outsideInput
-    outside-of = rw (len-of b run other v h, gone-of)
+    outside-of = rw (len-of b run other v h, gone-of b run other)
 
     pub in-mergeful : {t : Bool} → t ≡ outside → t ≡ false → Mergeful b (s .0) (e .0) run other
     in-mergeful {t} et k =
@@ -340,7 +332,7 @@ module _ {b : Buffer} {run other : List ℕ} (v : Held b run other) (s e : Input
       in-merges k u er =
           in-acts u
           (input-merges (λ level. merges) s e _ (spoiled-of b run other ∙ h) (outside-of ∙ (sym et ∙ k))
-          ∙ ap (λ (g : ℕ). accepted (merge merges (s .0 - g) (e .0 - g) (accountOf b run other))) gone-of) er
+          ∙ ap (λ (g : ℕ). accepted (merge merges (s .0 - g) (e .0 - g) (accountOf b run other))) (gone-of b run other)) er
 
   pub in-spoiled : (merges : Bool) {r : Reply} → spoiledPhase (b .phase) ≡ true → r ≡ reply b (No WrongPhase) → MeetsIn (λ capacity a. mergeInput (λ level. merges) s e a) b run other r run other
   in-spoiled merges h er = in-refused WrongPhase (input-spoiled (λ level. merges) s e _ (spoiled-of b run other ∙ h)) v er

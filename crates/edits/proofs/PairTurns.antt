@@ -6,41 +6,8 @@ use native.Mathlib.Omega.{arith}
 use lib.ListN.{take, drop, length, length-reverse}
 use lib.Seq.{slice, take-nil, drop-nil, length-take-le, length-slice}
 use Rattle.records.specs.{Position, Glyphs.Glyph, Glyphs.change, Glyphs.withPosition, View.paired}
+use Rattle.records.proofs.Pairs.{paired-take, paired-drop, paired-append, paired-reverse}
 use Rattle.lists.specs.Turned.{turned}
-
-pub paired-take : (n : ℕ) (l : List (Glyph ℕ)) (ps : List Position) → take n (paired l ps) ≡ paired (take n l) (take n ps)
-unfolding paired
-paired-take zero l ps = refl
-paired-take (suc n) [] ps = refl
-paired-take (suc n) (g ∷ l) [] = ap {B = List (Glyph ℕ)} (λ r. g ∷ r) (paired-take n l [] ∙ ap (paired (take n l)) (take-nil n))
-paired-take (suc n) (g ∷ l) (p ∷ ps) = ap {B = List (Glyph ℕ)} (λ r. change (withPosition p) g ∷ r) (paired-take n l ps)
-
-pub paired-drop : (n : ℕ) (l : List (Glyph ℕ)) (ps : List Position) → drop n (paired l ps) ≡ paired (drop n l) (drop n ps)
-unfolding paired
-paired-drop zero l ps = refl
-paired-drop (suc n) [] ps = refl
-paired-drop (suc n) (g ∷ l) [] = paired-drop n l [] ∙ ap (paired (drop n l)) (drop-nil n)
-paired-drop (suc n) (g ∷ l) (p ∷ ps) = paired-drop n l ps
-
--- ---- as many positions as glyphs
-pub paired-append : (l m : List (Glyph ℕ)) (ps qs : List Position) → length l ≡ length ps → paired (l ++ m) (ps ++ qs) ≡ paired l ps ++ paired m qs
-unfolding paired
-paired-append [] m [] qs e = refl
-paired-append [] m (p ∷ ps) qs e = absurd (omega arith)
-paired-append (g ∷ l) m [] qs e = absurd (omega arith)
-paired-append (g ∷ l) m (p ∷ ps) qs e = ap {B = List (Glyph ℕ)} (λ r. change (withPosition p) g ∷ r) (paired-append l m ps qs (suc-inj e))
-
-paired-reverse : (l : List (Glyph ℕ)) (ps : List Position) → length l ≡ length ps → paired (reverse l) (reverse ps) ≡ reverse (paired l ps)
-unfolding paired
-paired-reverse [] [] e = refl
-paired-reverse [] (p ∷ ps) e = absurd (omega arith)
-paired-reverse (g ∷ l) [] e = absurd (omega arith)
-paired-reverse (g ∷ l) (p ∷ ps) e =
-    let n : length l ≡ length ps = suc-inj e in
-    let m : length (reverse l) ≡ length (reverse ps) = length-reverse l ∙ (n ∙ sym (length-reverse ps)) in
-    ap₂ paired (reverse-cons g l) (reverse-cons p ps)
-    ∙ (paired-append (reverse l) (g ∷ []) (reverse ps) (p ∷ []) m
-    ∙ (ap (λ (r : List (Glyph ℕ)). r ++ (change (withPosition p) g ∷ [])) (paired-reverse l ps n) ∙ sym (reverse-cons (change (withPosition p) g) (paired l ps))))
 
 pub paired-turned : (s e : ℕ) (l : List (Glyph ℕ)) (ps : List Position) → length l ≡ length ps → s ≤ e → e ≤ length l → paired (turned s e l) (turned s e ps) ≡ turned s e (paired l ps)
 unfolding turned

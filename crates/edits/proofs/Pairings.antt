@@ -5,40 +5,11 @@ use native.Mathlib.Nat.{le-of-suc-le-suc, not-suc-le-zero}
 use native.Mathlib.Omega.{arith}
 use lib.{Dec.ltb, ListN.length, ListN.take, ListN.drop, ListN.getD, ListN.set, Seq.slice, Seq.take-nil, Seq.drop-nil}
 use Rattle.records.specs.{Phase, Position, Counters.costs, Glyphs.Glyph, Glyphs.Info, Glyphs.blank, Glyphs.change, Glyphs.key, Glyphs.withPosition, Glyphs.zeroPosition, Glyphs.setCluster, Ranges.clusters, Ranges.infos, Ranges.edit, Ranges.is, Ranges.isnt, Ranges.least, Ranges.first, Ranges.last, Ranges.heads, Ranges.tails, View.paired, View.zeroGlyph}
-use Rattle.records.proofs.View.{length-paired, length-clusters}
+use Rattle.records.proofs.{View.length-paired, View.length-clusters, Pairs.paired-take, Pairs.paired-drop, Pairs.paired-set, Pairs.paired-at}
 use Rattle.lists.specs.{Account.Account, Account.State, Account.inPhase, Account.withGone, Account.withLimits, Account.input, Account.limiting, Account.paying, Account.withInput, Account.withDone, Cursor.dropping}
 use Rattle.edits.specs.{Deleting.current, Deleting.survives, Deleting.inherited, Deleting.mergedForward, Deleting.deleted, Flags.interior, Flags.sought, Flags.flagInterior, Merging.mergeEnd, Merging.mergeStart, Merging.mergeTail, Merging.merged, Merging.merge, Merging.clustersMerge, Underway.pairing}
 use Rattle.edits.proofs.Holding.{same-account}
 use Rattle.edits.proofs.Places.{Apart, set-apart, clusters-paired, paired-edit, paired-interior}
-
--- ---- parts of pairs
-paired-take : (n : ℕ) (l : List (Glyph ℕ)) (ps : List Position) → take n (paired l ps) ≡ paired (take n l) (take n ps)
-unfolding paired
-paired-take zero l ps = refl
-paired-take (suc n) [] ps = refl
-paired-take (suc n) (g ∷ l) [] = ap {B = List (Glyph ℕ)} (λ r. g ∷ r) (paired-take n l [] ∙ ap (paired (take n l)) (take-nil n))
-paired-take (suc n) (g ∷ l) (p ∷ ps) = ap {B = List (Glyph ℕ)} (λ r. change (withPosition p) g ∷ r) (paired-take n l ps)
-
-paired-drop : (n : ℕ) (l : List (Glyph ℕ)) (ps : List Position) → drop n (paired l ps) ≡ paired (drop n l) (drop n ps)
-unfolding paired
-paired-drop zero l ps = refl
-paired-drop (suc n) [] ps = refl
-paired-drop (suc n) (g ∷ l) [] = paired-drop n l [] ∙ ap (paired (drop n l)) (drop-nil n)
-paired-drop (suc n) (g ∷ l) (p ∷ ps) = paired-drop n l ps
-
-paired-set : (k : ℕ) (l : List (Glyph ℕ)) (ps : List Position) (g : Glyph ℕ) (p : Position) → k < length l → k < length ps → paired (set l k g) (set ps k p) ≡ set (paired l ps) k (change (withPosition p) g)
-unfolding paired
-paired-set k [] ps g p h m = absurd (not-suc-le-zero h)
-paired-set k (x ∷ l) [] g p h m = absurd (not-suc-le-zero m)
-paired-set zero (x ∷ l) (q ∷ ps) g p h m = refl
-paired-set (suc k) (x ∷ l) (q ∷ ps) g p h m = ap {B = List (Glyph ℕ)} (λ r. change (withPosition q) x ∷ r) (paired-set k l ps g p (le-of-suc-le-suc h) (le-of-suc-le-suc m))
-
-paired-at : (k : ℕ) (l : List (Glyph ℕ)) (ps : List Position) → k < length l → k < length ps → getD (paired l ps) k zeroGlyph ≡ change (withPosition (getD ps k zeroPosition)) (getD l k zeroGlyph)
-unfolding paired
-paired-at k [] ps h m = absurd (not-suc-le-zero h)
-paired-at k (x ∷ l) [] h m = absurd (not-suc-le-zero m)
-paired-at zero (x ∷ l) (q ∷ ps) h m = refl
-paired-at (suc k) (x ∷ l) (q ∷ ps) h m = paired-at k l ps (le-of-suc-le-suc h) (le-of-suc-le-suc m)
 
 module _ (t : Bool) (l : List (Glyph ℕ)) (ps : List Position) where
   pub pairing-take : (n : ℕ) → take n (pairing t l ps) ≡ pairing t (take n l) (take n ps)

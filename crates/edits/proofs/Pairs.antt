@@ -8,20 +8,6 @@ use lib.Seq.{take-nil}
 use Rattle.records.specs.{Position, Glyphs.Glyph, Glyphs.change, Glyphs.withCluster, Glyphs.withPosition, Glyphs.blank, Glyphs.zeroPosition, Ranges.edit, View.paired}
 use Rattle.edits.specs.{Fills.repositioned, WholeRun.placed, WholeRun.numbered}
 
-pub paired-take : (n : ℕ) (l : List (Glyph ℕ)) (ps : List Position) → take n (paired l ps) ≡ paired (take n l) (take n ps)
-unfolding paired
-paired-take zero l ps = refl
-paired-take (suc n) [] ps = refl
-paired-take (suc n) (g ∷ l) [] = ap {B = List (Glyph ℕ)} (λ r. g ∷ r) (paired-take n l [] ∙ ap (paired (take n l)) (take-nil n))
-paired-take (suc n) (g ∷ l) (p ∷ ps) = ap {B = List (Glyph ℕ)} (λ r. change (withPosition p) g ∷ r) (paired-take n l ps)
-
-pub paired-append : (l m : List (Glyph ℕ)) (ps qs : List Position) → length l ≡ length ps → paired (l ++ m) (ps ++ qs) ≡ paired l ps ++ paired m qs
-unfolding paired
-paired-append [] m [] qs e = refl
-paired-append [] m (p ∷ ps) qs e = absurd (omega (arith, e))
-paired-append (g ∷ l) m [] qs e = absurd (omega (arith, e))
-paired-append (g ∷ l) m (p ∷ ps) qs e = ap {B = List (Glyph ℕ)} (λ r. change (withPosition p) g ∷ r) (paired-append l m ps qs (omega (arith, e)))
-
 -- zero glyphs have the position zero already
 pub paired-zeros : (n : ℕ) → paired (replicate n (record { glyph = 0; info = blank 0 })) (replicate n zeroPosition) ≡ replicate n (record { glyph = 0; info = blank 0 })
 unfolding paired change withPosition blank

@@ -8,7 +8,7 @@ use Rattle.records.specs.{Phase, Plain, Output, Positions, Spoiled, InputPlace,
 use Rattle.records.proofs.View.{glyphs-same, placements-glyphs, length-paired, beyond-placements, whole-same}
 use Rattle.lists.specs.declared.{Buffer.Buffer, Reply.Reply}
 use Rattle.lists.specs.{Account.Account, Account.State, Account.outputPhase, Account.positionsPhase, Account.spoiledPhase, Account.hasPositions, Account.input, Account.len, Account.withInput, Account.withLimits, Contract.MeetsIn, Results.refused, Results.accepted, Results.refuse_when_else_, State.shown, State.goneOf, State.stateOf, State.accountOf, State.Held, States.reply, States.withLimitsOf}
-use Rattle.lists.proofs.{Accounts.len-of, Calls.in-refused, Calls.in-accepted}
+use Rattle.lists.proofs.{Accounts.len-of, Calls.in-refused, Calls.in-accepted, Accounts.positions-of}
 use Rattle.edits.specs.{Fills.repositioned, Holding.holds, WholeRun.placed, WholeRun.place}
 use Rattle.edits.proofs.Bridge.{input-is, holds-input}
 use Rattle.edits.proofs.Holding.{edit-take}
@@ -40,10 +40,6 @@ gone-none Plain i l h = refl
 gone-none Output i l h = absurd (false≢true h)
 gone-none Positions i l h = refl
 gone-none Spoiled i l h = absurd (false≢true h)
-
-pub positions-of : (b : Buffer) (run other : List ℕ) → hasPositions (accountOf b run other) ≡ positionsPhase (b .phase)
-unfolding hasPositions accountOf stateOf
-positions-of b run other = refl
 
 -- ---- one glyph of the input has other words
 module _ (h : Info → Info) (l l′ : List (Glyph ℕ)) {i idx len : ℕ} (k : State) (inside : idx ≤ len) (fits : len ≤ length l) (at : i < len) where

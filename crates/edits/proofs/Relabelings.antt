@@ -8,13 +8,14 @@ use borrow.Author.Tests.{eq-eqb, ne-eqb, le-leb, lt-leb}
 use lib.{Bits.bitAnd, Bits.bitOr, Dec.leb, Dec.ltb, ListN.length, ListN.take, ListN.drop, ListN.getD, ListN.set, ListN.length-take, ListN.drop-of-length-le, Seq.set-getD, Seq.take-all, Seq.take-at, Seq.drop-at, Seq.length-take-le}
 use Rattle.records.specs.{Phase, Plain, Output, Positions, Spoiled, Limits, Position, WrongPhase, Done, No, Glyphs.Glyph, Glyphs.Info, Glyphs.change, Glyphs.withMask, Glyphs.withCluster, Glyphs.withPosition, Counters.costs, Ranges.is, Ranges.edit, Ranges.clusters, View.glyphs, View.placements, View.paired, View.zeroGlyph}
 use Rattle.records.proofs.View.{glyphs-same, cluster-of}
+use Rattle.records.proofs.Pairs.{paired-take}
 use Rattle.lists.specs.declared.{Buffer.Buffer, Reply.Reply}
 use Rattle.lists.specs.{Account.Account, Account.spoiledPhase, Account.len, Account.limiting, Account.paying, Account.withRest, Contract.MeetsIn, Results.refused, Results.accepted, Results.refuse_when_else_, State.shown, State.accountOf, State.Held, States.reply, States.withLimitsOf}
 use Rattle.lists.proofs.{Accounts.len-of, Accounts.limited-of, Calls.in-accepted}
 use Rattle.edits.specs.{WholeRun.notWhole, WholeRun.masked, WholeRun.setMasks, WholeRun.numbered, WholeRun.resetClusters, Wholes.WholeInput}
 use Rattle.edits.proofs.Holding.{edit-take, edit-drop-behind}
 use Rattle.edits.proofs.MergeCalls.{acts-paid, in-acts}
-use Rattle.edits.proofs.Pairs.{paired-take, paired-numbered}
+use Rattle.edits.proofs.Pairs.{paired-numbered}
 use Rattle.edits.proofs.Places.{Apart, paired-edit}
 use Rattle.edits.proofs.WholeInputs.{wholeTest, not-not-whole, in-not-whole, whole-is, whole-acts}
 

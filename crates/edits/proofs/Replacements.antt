@@ -9,7 +9,7 @@ use Rattle.records.specs.declared.{Glyph.Glyph as Words}
 use Rattle.records.proofs.View.{glyphs-same}
 use Rattle.lists.specs.declared.{Buffer.Buffer, Reply.Reply, Room.the-variants.Fits, Room.the-variants.GivesUp, Room.the-variants.Over}
 use Rattle.lists.specs.{Account.Account, Account.outputPhase, Account.hasOutput, Account.outLen, Account.sized, Account.limiting, Account.withLimits, Contract.MeetsIn, Moving.SyncOutput, Results.refused, Results.refuse_when_else_, State.accountOf, State.stateOf, State.goneOf, State.Held, State.roomFor, States.reply, States.withLimitsOf}
-use Rattle.lists.proofs.{Accounts.output-clean, Accounts.output-of, Accounts.held-lengths, Calls.in-refused, Calls.in-call}
+use Rattle.lists.proofs.{Accounts.output-clean, Accounts.output-of, Accounts.held-lengths, Calls.in-refused, Calls.in-call, Accounts.level-of}
 use Rattle.edits.specs.{Acts.Acts, Acts.Writable, Acts.Parted, Acts.Mergeful, Acts.replacing, Merging.merge, Merging.clustersMerge, Replaces.replaced, Replaces.writesReplaced, Writing.model, Writing.replaceGlyphs}
 use Rattle.edits.proofs.Writings.{limits-side, sized-of, out-size, rest-first, rest-length, model-rest, writing-over, writing-gives-up, writing-done}
 
@@ -25,17 +25,13 @@ gone-output b o = by-phase (b .phase) o
     by-phase Spoiled h = absurd (false≢true h)
 
 module _ (b : Buffer) (run other : List ℕ) (o : outputPhase (b .phase) ≡ true) where
-  level-of : (accountOf b run other) .state .level ≡ b .level
-  unfolding accountOf stateOf
-  level-of = refl
-
   -- a merge from the cursor on, counted in the run and counted in the input
   pub merge-places : (m : ℕ) → merge (clustersMerge (b .level)) (b .idx .0 - goneOf b) (b .idx .0 + m - goneOf b) (accountOf b run other) ≡ merge (clustersMerge ((accountOf b run other) .state .level)) 0 m (accountOf b run other)
   merge-places m =
       let g : goneOf b ≡ b .idx .0 = gone-output b o in
       let s : b .idx .0 - goneOf b ≡ 0 = omega arith in
       let f : b .idx .0 + m - goneOf b ≡ m = omega arith in
-      λ k. merge (clustersMerge (sym level-of k)) (s k) (f k) (accountOf b run other)
+      λ k. merge (clustersMerge (sym (level-of b run other) k)) (s k) (f k) (accountOf b run other)
 
 -- ---- the merge of the inputs, and the copies after it
 module _ {b : Buffer} {m n : ℕ} {run other : List ℕ} (v : Writable b m n run other) where

@@ -45,10 +45,22 @@ output-clean Output h = refl
 output-clean Positions h = refl
 output-clean Spoiled h = absurd (false≢true h)
 
+-- a buffer that is not spoiled shows the whole of its run
+pub length-shown : (p : Phase) (run other : List ℕ) → spoiledPhase p ≡ false → length (shown p run other) ≡ length (glyphs run)
+unfolding shown
+length-shown Plain run other h = refl
+length-shown Output run other h = refl
+length-shown Positions run other h = length-paired (glyphs run) (placements other)
+length-shown Spoiled run other h = absurd (false≢true (sym h))
+
 module _ (b : Buffer) (run other : List ℕ) where
   pub output-of : hasOutput (accountOf b run other) ≡ outputPhase (b .phase)
   unfolding hasOutput accountOf stateOf
   output-of = refl
+
+  pub positions-of : hasPositions (accountOf b run other) ≡ positionsPhase (b .phase)
+  unfolding hasPositions accountOf stateOf
+  positions-of = refl
 
   pub spoiled-of : isSpoiled (accountOf b run other) ≡ spoiledPhase (b .phase)
   unfolding isSpoiled accountOf stateOf
@@ -66,7 +78,7 @@ module _ (b : Buffer) (run other : List ℕ) where
   unfolding accountOf stateOf
   wants-of = refl
 
-  gone-of : (accountOf b run other) .state .gone ≡ goneOf b
+  pub gone-of : (accountOf b run other) .state .gone ≡ goneOf b
   unfolding accountOf stateOf
   gone-of = refl
 
@@ -84,21 +96,10 @@ module _ (b : Buffer) (run other : List ℕ) where
         out-length true = let e : length (glyphs run) ≡ length (glyphs other) = glyphs-same run other (v .same) in length-take-le (b .«out_len» .0) (glyphs other) (omega arith)
         out-length false = length-take-le (b .«out_len» .0) (glyphs run) (omega arith)
 
-    -- a buffer that is not spoiled shows the whole of its run
-    shown-length : spoiledPhase (b .phase) ≡ false → length (shown (b .phase) run other) ≡ length (glyphs run)
-    unfolding shown
-    shown-length h = by-phase (b .phase) h
-      where
-        by-phase : (p : Phase) → spoiledPhase p ≡ false → length (shown p run other) ≡ length (glyphs run)
-        by-phase Plain k = refl
-        by-phase Output k = refl
-        by-phase Positions k = length-paired (glyphs run) (placements other)
-        by-phase Spoiled k = absurd (false≢true (sym k))
-
     module _ (h : spoiledPhase (b .phase) ≡ false) where
       pub rest-of : length ((accountOf b run other) .rest) ≡ b .len .0 - b .idx .0
       unfolding accountOf
-      rest-of = let e : length (shown (b .phase) run other) ≡ length (glyphs run) = shown-length h in length-slice (b .idx .0) (b .len .0) (shown (b .phase) run other) (omega arith)
+      rest-of = let e : length (shown (b .phase) run other) ≡ length (glyphs run) = length-shown (b .phase) run other h in length-slice (b .idx .0) (b .len .0) (shown (b .phase) run other) (omega arith)
 
       gone-in : goneOf b ≤ b .idx .0
       unfolding goneOf
@@ -112,7 +113,7 @@ module _ (b : Buffer) (run other : List ℕ) where
 
       passed-length : length ((accountOf b run other) .passed) ≡ b .idx .0 - goneOf b
       unfolding accountOf
-      passed-length = let e : length (shown (b .phase) run other) ≡ length (glyphs run) = shown-length h in length-slice (goneOf b) (b .idx .0) (shown (b .phase) run other) (omega arith)
+      passed-length = let e : length (shown (b .phase) run other) ≡ length (glyphs run) = length-shown (b .phase) run other h in length-slice (goneOf b) (b .idx .0) (shown (b .phase) run other) (omega arith)
 
       pub idx-of : idx (accountOf b run other) ≡ b .idx .0
       unfolding idx

@@ -1,5 +1,6 @@
+pub mod Counting
 pub mod Examples
 pub mod Executable
+pub mod Pairs
 pub mod Renaming
-pub mod Counting
 pub mod View
