@@ -1,0 +1,213 @@
+//! Lists of commands from a seed, their comparison, and the shrinking of the first that differs.
+use crate::commands::{bytes_of, Command, OPEN, OPERANDS};
+use crate::theirs::{self, Theirs};
+use std::io::Read;
+
+/// xorshift64*: the same lists from the same seed, everywhere.
+pub struct Random(u64);
+
+impl Random {
+    pub fn new(seed: u64) -> Self {
+        Random(seed.wrapping_mul(0x9E37_79B9_7F4A_7C15) | 1)
+    }
+
+    pub fn next(&mut self) -> u64 {
+        self.0 ^= self.0 >> 12;
+        self.0 ^= self.0 << 25;
+        self.0 ^= self.0 >> 27;
+        self.0.wrapping_mul(0x2545_F491_4F6C_DD1D)
+    }
+
+    pub fn below(&mut self, n: usize) -> usize {
+        ((self.next() >> 33) as usize) % n.max(1)
+    }
+
+    fn pick(&mut self, from: &[u32]) -> u32 {
+        from[self.below(from.len())]
+    }
+}
+
+/// A place near `top`: mostly inside, now and then past it, at times far off.
+fn place(r: &mut Random, top: usize) -> u32 {
+    match r.below(20) {
+        0 => (top + 1 + r.below(3)) as u32,
+        1 => r.pick(&[0, 255, 256, 300, 2047, 2048, 65536, 1_073_741_824]),
+        _ => r.below(top + 1) as u32,
+    }
+}
+
+/// Two places in order, most of the time.
+fn range(r: &mut Random, low: usize, top: usize) -> (u32, u32) {
+    let (a, b) = (place(r, top), place(r, top));
+    let low = if r.below(8) == 0 { 0 } else { low as u32 };
+    if r.below(10) == 0 { (a, b) } else { (a.min(b).max(low), a.max(b).max(low)) }
+}
+
+fn bounds(r: &mut Random, a: (u32, u32)) -> (u32, u32) {
+    (if r.below(6) == 0 { OPEN } else { a.0 }, if r.below(6) == 0 { OPEN } else { a.1 })
+}
+
+fn cluster(r: &mut Random) -> u32 {
+    if r.below(30) == 0 { r.pick(&[OPEN, 4_000_000_000, 255]) } else { r.below(6) as u32 }
+}
+
+fn mask(r: &mut Random) -> u32 {
+    match r.below(4) {
+        0 => r.next() as u32,
+        1 => 0,
+        _ => r.below(16) as u32,
+    }
+}
+
+fn glyph(r: &mut Random) -> u32 {
+    if r.below(10) == 0 { r.next() as u32 } else { 60 + r.below(40) as u32 }
+}
+
+fn var(r: &mut Random) -> u32 {
+    if r.below(8) == 0 { r.next() as u32 } else { r.below(4) as u32 }
+}
+
+fn slot(r: &mut Random) -> u32 {
+    if r.below(20) == 0 { 2 } else { r.below(2) as u32 }
+}
+
+fn operands(r: &mut Random, byte: u8, t: &Theirs) -> Vec<u32> {
+    let b = &t.buffer;
+    let cursor = if b.have_output { b.idx } else { 0 };
+    match byte {
+        0x00 => vec![r.below(5) as u32, r.below(4) as u32 + u32::from(r.below(20) == 0)],
+        0x01 => vec![glyph(r), cluster(r)],
+        0x02 => vec![if r.below(12) == 0 { r.pick(&[2048, 2049, 1_073_741_823, 1_073_741_824]) } else { r.below(b.len + 4) as u32 }],
+        0x06 => vec![place(r, b.len), r.next() as u32, r.below(9) as u32, r.next() as u32, r.below(3) as u32],
+        0x08 => vec![place(r, b.len - b.idx)],
+        0x0B | 0x0D => vec![glyph(r)],
+        0x0C => vec![glyph(r), mask(r), cluster(r), var(r), var(r)],
+        0x0E => {
+            let out = if r.below(40) == 0 { 30 } else { r.below(4) };
+            let mut words = vec![place(r, (b.len - b.idx).min(3)), out as u32];
+            words.extend((0..out).map(|_| glyph(r)));
+            words
+        }
+        0x10 => vec![place(r, if b.have_output { b.out_len + b.len - b.idx } else { b.len })],
+        0x11 | 0x13 | 0x1C => {
+            let (s, e) = range(r, cursor, b.len);
+            vec![s, e]
+        }
+        0x12 | 0x14 => {
+            let (s, e) = range(r, 0, b.out_len);
+            vec![s, e]
+        }
+        0x15..=0x17 => {
+            let wide = range(r, cursor, b.len);
+            let (s, e) = bounds(r, wide);
+            vec![s, e]
+        }
+        0x18 | 0x19 => {
+            let places = (place(r, b.out_len), place(r, b.len).max(b.idx as u32));
+            let (s, e) = bounds(r, places);
+            vec![s, e]
+        }
+        0x1A => {
+            let (s, e) = if r.below(3) == 0 { (r.pick(&[0, 0, 1]), OPEN) } else { (r.below(4) as u32, r.below(8) as u32) };
+            vec![r.next() as u32, mask(r), s, e]
+        }
+        0x1E | 0x22 => vec![slot(r), mask(r)],
+        0x20 => {
+            let (s, e) = range(r, 0, b.len);
+            vec![s, e, slot(r), mask(r)]
+        }
+        0x21 => vec![slot(r), 3, r.below(4) as u32],
+        _ => vec![0; OPERANDS[byte as usize]],
+    }
+}
+
+/// Which commands make sense now; others come too, for their refusals.
+fn byte(r: &mut Random, t: &Theirs) -> u8 {
+    let b = &t.buffer;
+    if t.spoiled {
+        return if r.below(3) > 0 { 0x00 } else { r.below(39) as u8 };
+    }
+    if r.below(12) == 0 {
+        return 1 + r.below(38) as u8;
+    }
+    if b.have_output {
+        let some = [
+            0x07, 0x08, 0x09, 0x0A, 0x0B, 0x0C, 0x0C, 0x0D, 0x0E, 0x0E, 0x0F, 0x10, 0x10, 0x11, 0x12, 0x13, 0x14, 0x15, 0x16, 0x17, 0x18, 0x19, 0x04,
+        ];
+        return r.pick(&some) as u8;
+    }
+    if b.len < 2 || r.below(4) == 0 {
+        return r.pick(&[0x01, 0x01, 0x02, 0x03]) as u8;
+    }
+    let some = [
+        0x01, 0x02, 0x03, 0x03, 0x03, 0x05, 0x06, 0x06, 0x07, 0x09, 0x10, 0x11, 0x13, 0x15, 0x16, 0x17, 0x1A, 0x1B, 0x1C, 0x1D, 0x1E, 0x1F, 0x20, 0x20,
+        0x21, 0x22, 0x23, 0x24, 0x25, 0x26,
+    ];
+    r.pick(&some) as u8
+}
+
+/// A list that is made as harfrust goes along with it.
+pub fn list(r: &mut Random, capacity: usize, length: usize) -> Vec<Command> {
+    let mut theirs = Theirs::new(capacity, 0, 0);
+    let mut commands = vec![Command::new(0, &[r.below(4) as u32, r.below(4) as u32])];
+    let _ = theirs.call(&commands[0]);
+    // with output, glyphs with variables can be made: they become the run
+    for _ in 0..length {
+        let byte = byte(r, &theirs);
+        let command = Command { byte, operands: operands(r, byte, &theirs) };
+        let _ = theirs.call(&command);
+        commands.push(command);
+    }
+    commands
+}
+
+/// Leaves out commands as long as the two sides still differ.
+fn shrink(mut commands: Vec<Command>, differ: &dyn Fn(&[Command]) -> bool) -> Vec<Command> {
+    let mut width = commands.len() / 2;
+    while width > 0 {
+        let mut at = 0;
+        while at + width <= commands.len() {
+            let mut fewer = commands.clone();
+            fewer.drain(at..at + width);
+            if differ(&fewer) {
+                commands = fewer;
+            } else {
+                at += width;
+            }
+        }
+        width /= 2;
+    }
+    commands
+}
+
+/// compare PROGRAM SEED COMMANDS: runs lists until that many commands agreed.
+pub fn compare(arguments: &[String]) {
+    let [program, seed, goal, more @ ..] = arguments else { panic!("compare PROGRAM SEED COMMANDS [ARGUMENTS OF PROGRAM]") };
+    let (seed, goal): (u64, usize) = (seed.parse().unwrap(), goal.parse().unwrap());
+    let capacity = 2048;
+    let differ = |l: &[Command]| theirs::run(capacity, &bytes_of(l)) != crate::ours::run(program, more, &bytes_of(l));
+    let (mut lists, mut commands) = (0, 0);
+    while commands < goal {
+        let mut r = Random::new(seed.wrapping_add(lists));
+        let length = 1 + r.below(200);
+        let made = list(&mut r, capacity, length);
+        if differ(&made) {
+            let small = shrink(made, &differ);
+            println!("differ, list {lists} of seed {seed}:");
+            small.iter().for_each(|c| println!("{}", c.text()));
+            println!("-- harfrust\n{}-- ours\n{}", theirs::run(capacity, &bytes_of(&small)), crate::ours::run(program, more, &bytes_of(&small)));
+            std::process::exit(1);
+        }
+        lists += 1;
+        commands += made.len();
+    }
+    println!("{lists} lists, {commands} commands, no difference");
+}
+
+/// run [CAPACITY]: what harfrust prints for the bytes on standard input.
+pub fn run_one(arguments: &[String]) {
+    let capacity = arguments.first().map_or(2048, |a| a.parse().unwrap());
+    let mut bytes = Vec::new();
+    std::io::stdin().read_to_end(&mut bytes).unwrap();
+    print!("{}", theirs::run(capacity, &bytes));
+}
