@@ -8,3 +8,6 @@ pub mod Decimals
 pub mod LineLaws
 pub mod LineExamples
 pub mod Readings
+pub mod CallLaws
+pub mod StepLaws
+pub mod RunLaws

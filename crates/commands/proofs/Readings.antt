@@ -6,7 +6,7 @@ use native.Mathlib.Omega.{arith}
 use lib.{Dec.ltb, ListN.length, ListN.getD, ListN.take, ListN.drop, ListN.length-drop, ListN.List·getD-eq-default, Seq.drop-cons}
 use borrow.Author.Tests.{ltb-true, ltb-false}
 use Rattle.commands.specs.Bytes.{unreadable, got, mapped, words, at, Form, unknown, plain, glyphAnd, listed, forms, readForm, readUpTo}
-use Rattle.commands.specs.Reading.{wordAt, wordsAt, formOf, operandsOf, count, made, operandAt, orderAt, wordedOf, readingOf, ReadsForm, Reads}
+use Rattle.commands.specs.Reading.{wordAt, wordsAt, formOf, operandsOf, count, made, operandAt, orderAt, ordered, wordedOf, readingOf, ReadsForm, Reads}
 use Rattle.commands.proofs.Bytes.{listedRead, continued}
 use Rattle.commands.specs.declared.{Reading.Reading, Reading.the-variants.Command, Reading.the-variants.Unreadable, Operands.Operands, Operands.the-variants.Words, Operands.the-variants.Listed, Operands.the-variants.Unknown}
 
@@ -19,7 +19,7 @@ cut n (a ∷ (b ∷ [])) h = refl
 cut n (a ∷ (b ∷ (c ∷ []))) h = refl
 cut n (a ∷ (b ∷ (c ∷ (d ∷ l)))) h = absurd (omega arith)
 
-next : (s : List ℕ) (j k : ℕ) → j < length s → suc j ≡ k → drop j s ≡ getD s j 0 ∷ drop k s
+pub next : (s : List ℕ) (j k : ℕ) → j < length s → suc j ≡ k → drop j s ≡ getD s j 0 ∷ drop k s
 next s j k h e = rw (← e) (drop-cons s j 0 h)
 
 full : (n : ℕ) (s : List ℕ) (at : ℕ) → at + 4 ≤ length s → words (suc n) (drop at s) ≡ mapped (λ ws. wordAt s at ∷ ws) (words n (drop (at + 4) s))
@@ -92,7 +92,7 @@ operands-are n h s from =
     ∙ cut-back (wordsAt s from n) (rw (length-words n s from) h)
 
 -- ---- a form's operands, cut off and there
-isListed : Operands → Bool
+unfoldable pub isListed : Operands → Bool
 isListed Unknown = false
 isListed (Words n) = false
 isListed Listed = true
@@ -162,7 +162,7 @@ module _ (s : List ℕ) (byte from : ℕ) where
     words-unreadable h k = record { same = form-cut s from n (formOf byte) e h k; ordered = tt }
 
     pub words-ordered : n ≤ 5 → from + 4 * n ≤ length s → ReadsForm s byte from (Command (orderAt s byte from n 0))
-    unfolding readingOf wordedOf orderAt count isKnown
+    unfolding readingOf wordedOf ordered orderAt count isKnown
     words-ordered h k = let last : from + 4 * n + 4 * 0 ≡ from + 4 * n = omega arith in record {
       same = form-read s from n (formOf byte) e k (wordsAt s (from + 4 * n) (operandAt s from n 1)) ∙ sym (rw (e, operands-are n h s from, last));
       ordered = record { byte-is = refl; known = known-byte byte (ap isKnown e); onward = omega arith; inside = rw last k; listed-end = λ x. absurd (not-words byte n e x) };
@@ -178,7 +178,7 @@ module _ (s : List ℕ) (byte from : ℕ) where
     numbers-unreadable h k = record { same = numbers-cut s from (formOf byte) e h k; ordered = tt }
 
     pub listed-ordered : from + 8 + 4 * wordAt s (from + 4) ≤ length s → ReadsForm s byte from (Command (orderAt s byte from 2 (wordAt s (from + 4))))
-    unfolding readingOf wordedOf orderAt wordsAt count isKnown
+    unfolding readingOf wordedOf ordered orderAt wordsAt count isKnown
     listed-ordered h = record {
       same = listed-read s from (formOf byte) e h ∙ sym (rw e);
       ordered = record { byte-is = refl; known = known-byte byte (ap isKnown e); onward = omega arith; inside = h; listed-end = λ x. refl };

@@ -4,3 +4,5 @@ pub mod Renaming
 pub mod Demand
 pub mod Lines
 pub mod Reading
+pub mod Steps
+pub mod Runs

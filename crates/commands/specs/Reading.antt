@@ -56,10 +56,12 @@ orderAt s byte from n m = record {
   next = from + 4 * n + 4 * m;
 }
 
--- the call that an order stands for
+-- the call that an order stands for, given glyph numbers of its own, and with those that stand in the string
+unfoldable pub ordered : Order → List ℕ → Worded ℕ
+ordered o gs = made (formOf (o .byte)) (take (count (operandsOf (formOf (o .byte)))) (o .a ∷ o .b ∷ o .c ∷ o .d ∷ o .e ∷ [])) gs
+
 unfoldable pub wordedOf : List ℕ → Order → Worded ℕ
-wordedOf s o =
-    made (formOf (o .byte)) (take (count (operandsOf (formOf (o .byte)))) (o .a ∷ o .b ∷ o .c ∷ o .d ∷ o .e ∷ [])) (wordsAt s (o .numbers) (o .b))
+wordedOf s o = ordered o (wordsAt s (o .numbers) (o .b))
 
 unfoldable pub readingOf : List ℕ → Reading → Read (Worded ℕ)
 readingOf s Unreadable = unreadable

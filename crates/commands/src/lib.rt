@@ -1,8 +1,13 @@
-// Commands of the shaping buffer: the reader of bytes, and the printed lines. The account of calls, lists of calls and bytes
-// stands in specs/, with what demand 3 says of them.
+// Commands of the shaping buffer: the reader of bytes, the step and the run, and the printed lines. The account of calls,
+// lists of calls and bytes stands in specs/, with what demand 3 says of them.
+use lists::Reply;
+
+pub mod calls;
 pub mod digits;
 pub mod lines;
 pub mod reader;
+pub mod runs;
+pub mod steps;
 pub mod words;
 
 // A command as it was read: its byte, its first five operands (0 where it has fewer), where glyph numbers of its own
@@ -29,4 +34,16 @@ pub enum Operands {
     Words(usize),
     Listed,
     Unknown,
+}
+
+// What a step gives back: the call's reply, and where the next command starts.
+pub struct Step {
+    pub reply: Reply,
+    pub next: usize,
+}
+
+// What a run gives back: the last command's reply, and how many commands there were.
+pub struct Ran {
+    pub reply: Reply,
+    pub commands: usize,
 }

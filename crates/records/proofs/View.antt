@@ -36,6 +36,10 @@ module _ (g : Words) where
   unfolding seen glyphOf
   seen-var1 = refl
 
+  pub seen-info : seen g .info ≡ record { mask = g .mask; cluster = g .cluster; var0 = g .var0; var1 = g .var1; position = zeroPosition }
+  unfolding seen glyphOf
+  seen-info = refl
+
   pub seen-numbered : (n : ℕ) → seen (record { glyph = n; mask = g .mask; cluster = g .cluster; var0 = g .var0; var1 = g .var1 }) ≡ record { glyph = n; info = seen g .info }
   unfolding seen glyphOf
   seen-numbered n = refl

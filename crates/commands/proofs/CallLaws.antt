@@ -1,0 +1,70 @@
+-- Calls by their numbers: what an arm of the dispatch gives is the account's call.
+use mathlib.Core.{Path._≡_, Bool.true, Bool.false, Bool.cond, Option.Option, List.List, List.[], List._∷_}
+use Prim.Native.Nat.{ℕ, _≤_, _<_}
+use native.Mathlib.Omega.{arith}
+use borrow.Author.Tests.{eq-eqb, ne-eqb}
+use Rattle.records.specs.{InputPlace, DonePlace, View.seen, declared.Glyph.Glyph as Words}
+use Rattle.records.proofs.View.{seen-number, seen-info}
+use Rattle.lists.specs.declared.{Buffer.Buffer, Reply.Reply}
+use Rattle.lists.specs.Contract.{Meets}
+use Rattle.edits.specs.declared.InputBound.{InputBound, the-variants.Open as InputOpen, the-variants.At as InputAt}
+use Rattle.edits.specs.declared.DoneBound.{DoneBound, the-variants.Open as DoneOpen, the-variants.At as DoneAt}
+use Rattle.edits.specs.{Bounds.inputBound, Bounds.doneBound, Flags.plainForm, Flags.outbufferForm, Flags.wantsConcat, Flags.wantsTatweel, Writing.outputInfo}
+use Rattle.commands.specs.Bytes.{bound, input, done}
+use Rattle.commands.proofs.Readings.{NoneOf, past}
+use Rattle.commands.specs.Calls.{perform, c0C-output-info, c15-unsafe-to-break, c16-unsafe-to-concat, c17-safe-to-insert-tatweel, c18-unsafe-to-break-from-outbuffer, c19-unsafe-to-concat-from-outbuffer}
+
+-- ---- bounds: the highest word is an open one
+pub input-open : (n : ℕ) → n ≡ 4294967295 → inputBound InputOpen ≡ bound (λ k. input k) n
+unfolding inputBound bound
+input-open n h = rw (eq-eqb n 4294967295 h)
+
+pub input-at : (n : ℕ) → (n ≡ 4294967295 → ⊥) → inputBound (InputAt (record { 0 = n })) ≡ bound (λ k. input k) n
+unfolding inputBound bound input
+input-at n h = rw (ne-eqb n 4294967295 h)
+
+pub done-open : (n : ℕ) → n ≡ 4294967295 → doneBound DoneOpen ≡ bound (λ k. done k) n
+unfolding doneBound bound
+done-open n h = rw (eq-eqb n 4294967295 h)
+
+pub done-at : (n : ℕ) → (n ≡ 4294967295 → ⊥) → doneBound (DoneAt (record { 0 = n })) ≡ bound (λ k. done k) n
+unfolding doneBound bound done
+done-at n h = rw (ne-eqb n 4294967295 h)
+
+-- ---- calls with operands that are made of words
+module _ {b : Buffer} {f s f′ s′ : List ℕ} {r : Reply} where
+  pub info-call : (g : Words) → Meets (λ capacity a. outputInfo capacity (seen g .glyph) (seen g .info) a) b f s r f′ s′
+      → Meets (λ capacity a. perform 0 capacity (c0C-output-info (g .mask) (g .cluster) (g .var0) (g .var1)) (g .glyph ∷ []) a) b f s r f′ s′
+  unfolding perform
+  info-call g m = rw (seen-number g, seen-info g) at m
+
+  module _ {x y : Option InputPlace} (start end : InputBound) (ex : inputBound start ≡ x) (ey : inputBound end ≡ y) where
+    pub break-call : Meets (λ capacity a. plainForm true true 3 (inputBound start) (inputBound end) a) b f s r f′ s′
+        → Meets (λ capacity a. perform 0 capacity (c15-unsafe-to-break x y) [] a) b f s r f′ s′
+    unfolding perform
+    break-call m = rw (← ex, ← ey) m
+
+    pub concat-call : Meets (λ capacity a. plainForm false (wantsConcat (a .state .wants)) 2 (inputBound start) (inputBound end) a) b f s r f′ s′
+        → Meets (λ capacity a. perform 0 capacity (c16-unsafe-to-concat x y) [] a) b f s r f′ s′
+    unfolding perform
+    concat-call m = rw (← ex, ← ey) m
+
+    pub tatweel-call : Meets (λ capacity a. plainForm true true (cond (wantsTatweel (a .state .wants)) 4 3) (inputBound start) (inputBound end) a) b f s r f′ s′
+        → Meets (λ capacity a. perform 0 capacity (c17-safe-to-insert-tatweel x y) [] a) b f s r f′ s′
+    unfolding perform
+    tatweel-call m = rw (← ex, ← ey) m
+
+  module _ {x : Option DonePlace} {y : Option InputPlace} (start : DoneBound) (end : InputBound) (ex : doneBound start ≡ x) (ey : inputBound end ≡ y) where
+    pub break-out-call : Meets (λ capacity a. outbufferForm true true 3 (doneBound start) (inputBound end) a) b f s r f′ s′
+        → Meets (λ capacity a. perform 0 capacity (c18-unsafe-to-break-from-outbuffer x y) [] a) b f s r f′ s′
+    unfolding perform
+    break-out-call m = rw (← ex, ← ey) m
+
+    pub concat-out-call : Meets (λ capacity a. outbufferForm false (wantsConcat (a .state .wants)) 2 (doneBound start) (inputBound end) a) b f s r f′ s′
+        → Meets (λ capacity a. perform 0 capacity (c19-unsafe-to-concat-from-outbuffer x y) [] a) b f s r f′ s′
+    unfolding perform
+    concat-out-call m = rw (← ex, ← ey) m
+
+-- ---- the last arm: the byte is 26
+pub last-byte : (byte : ℕ) → NoneOf 38 byte → byte < 39 → byte ≡ 38
+last-byte byte none h = let low : 38 ≤ byte = past 38 byte none in omega arith

@@ -1,0 +1,49 @@
+use Rattle.commands.proofs.StepLaws.{command-known, step-obeyed, step-unread}
+use borrow.Author.Needs.{needs}
+use Rattle.commands.proofs.steps.step.Statement.{statement}
+use Rattle.commands.proofs.steps.step.Tie as tie
+
+read-command-requires : tie.Need-read-command-requires
+read-command-requires c κs = search needs
+
+enum-known-reading : tie.Need-enum-known-reading
+enum-known-reading c = search needs
+
+obey-requires : tie.Need-obey-requires
+obey-requires c κs = command-known _ (c .before .before .before .before .reading .given .1) (c .before .before .before .before .before .before .read-command .ensures)
+
+enum-told : tie.Need-enum-told
+enum-told c = search needs
+
+refusal-requires : tie.Need-refusal-requires
+refusal-requires c κs = search needs
+
+same-length : tie.Need-same-length
+same-length c = search needs
+
+same-length-2 : tie.Need-same-length-2
+same-length-2 c = search needs
+
+same-length-3 : tie.Need-same-length-3
+same-length-3 c = search needs
+
+returns : tie.Need-returns
+returns c = step-obeyed _ _ _ (c .before .before .before .before .before .before .before .before .before .before .before .reading .given .1) (c .before .before .before .before .before .before .before .before .before .before .before .before .before .read-command .ensures) (c .before .before .before .before .before .before .obey .ensures)
+
+returns-2 : tie.Need-returns-2
+returns-2 c = step-unread _ _ (c .before .enum-told .given .1) (c .before .before .before .read-command .ensures) (c .refusal .ensures)
+
+pub step-spec : {M : Type 1} → statement M
+step-spec =
+    tie.close
+    (tie.spec
+    read-command-requires
+    enum-known-reading
+    obey-requires
+    enum-told
+    refusal-requires
+    same-length
+    same-length-2
+    same-length-3
+    returns
+    returns-2)
