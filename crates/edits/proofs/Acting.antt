@@ -4,13 +4,14 @@ use Prim.Native.Nat.{ℕ, zero, suc, _+_, _≤_, _<_}
 use native.Mathlib.Nat.{le-of-suc-le-suc, not-suc-le-zero}
 use native.Mathlib.Omega.{arith}
 use lib.ListN.{length, take, drop, getD, set, length-map}
-use lib.Seq.{slice, slice-empty, drop-drop}
-use Rattle.records.specs.{Phase, Plain, Output, Positions, Spoiled, Glyphs.Glyph, Glyphs.Info, Ranges.copies, View.glyphs, View.zeroGlyph, View.wordsFrom, View.Whole}
-use Rattle.records.proofs.{View.glyphs-same, View.whole-same, View.beyond-glyphs, Renaming.take-map}
+use lib.Seq.{slice, drop-drop}
+use Rattle.records.specs.{Glyphs.Glyph, Glyphs.Info, Ranges.copies, View.glyphs, View.zeroGlyph}
+use Rattle.records.proofs.{View.glyphs-same, View.whole-same, Renaming.take-map}
 use Rattle.lists.specs.declared.{Buffer.Buffer}
-use Rattle.lists.specs.{Account.Account, Account.outputPhase, Account.withGone, Copied.copied, Cursor.dropping, State.shown, State.goneOf, State.stateOf, State.accountOf, State.Held, States.atPlaces, States.apartBuffer}
+use Rattle.lists.specs.{Account.withGone, Copied.copied, Cursor.dropping, State.accountOf, State.Held, States.atPlaces, States.apartBuffer}
 use Rattle.lists.proofs.{Copying.copied-none, Copying.copied-more, Copying.take-copied, Copying.drop-copied, Copying.range-same}
 use Rattle.edits.specs.{Acts.Acts, Acts.Roomy, Acts.Writable, Acts.Parted, Acts.replacing, Writing.written}
+use Rattle.lists.proofs.Outputs.{output-cong, output-places, output-account, beyond}
 
 -- ---- copies of one glyph
 pub length-copies : (i : Info) (gs : List ℕ) → length (copies i gs) ≡ length gs
@@ -59,54 +60,6 @@ module _ {at n : ℕ} {w : Info} {gs : List ℕ} where
   putting-done {ws₀} {ws} {i} v h =
       let e : i ≡ n = omega arith in
       rw e at (v .is)
-
--- ---- the account of a buffer with output
-abbrev pub output : Buffer → ℕ → (done rest : List (Glyph ℕ)) → Account ℕ
-output b i D R = record { done = D; passed = []; rest = R; state = record { phase = b .phase; gone = i; limits = b .limits; level = b .level; wants = b .wants } }
-
-pub output-cong : (b : Buffer) {i j : ℕ} {D E R S : List (Glyph ℕ)} → i ≡ j → D ≡ E → R ≡ S → output b i D R ≡ output b j E S
-output-cong b ei ed er = λ k. output b (ei k) (ed k) (er k)
-
-pub shown-output : (p : Phase) (run other : List ℕ) → outputPhase p ≡ true → shown p run other ≡ glyphs run
-unfolding shown
-shown-output Plain run other h = absurd (false≢true h)
-shown-output Output run other h = refl
-shown-output Positions run other h = absurd (false≢true h)
-shown-output Spoiled run other h = absurd (false≢true h)
-
--- what `goneOf` says at other places
-abbrev goneAt : Phase → ℕ → ℕ → ℕ
-goneAt p i l = elim p [ Plain ↦ 0 | Output ↦ i | Positions ↦ 0 | Spoiled ↦ l ]
-
-gone-output : (p : Phase) (i l : ℕ) → outputPhase p ≡ true → goneAt p i l ≡ i
-gone-output Plain i l h = absurd (false≢true h)
-gone-output Output i l h = refl
-gone-output Positions i l h = absurd (false≢true h)
-gone-output Spoiled i l h = absurd (false≢true h)
-
-output-places : (b : Buffer) (i l o : ℕ) (run other : List ℕ) → outputPhase (b .phase) ≡ true
-    → accountOf (atPlaces i l o b) run other ≡ output b i (take o (cond (b .«have_separate_output») (glyphs other) (glyphs run))) (slice i l (glyphs run))
-unfolding accountOf atPlaces stateOf goneOf
-output-places b i l o run other h =
-    let g : goneAt (b .phase) i l ≡ i = gone-output (b .phase) i l h in
-    let none : slice (goneAt (b .phase) i l) i (shown (b .phase) run other) ≡ [] =
-    ap (λ (k : ℕ). slice k i (shown (b .phase) run other)) g ∙ slice-empty i (shown (b .phase) run other) in
-    let rest : slice i l (shown (b .phase) run other) ≡ slice i l (glyphs run) = ap (slice i l) (shown-output (b .phase) run other h) in
-    λ k. record {
-      done = take o (cond (b .«have_separate_output») (glyphs other) (glyphs run));
-      passed = none k;
-      rest = rest k;
-      state = record { phase = b .phase; gone = g k; limits = b .limits; level = b .level; wants = b .wants };
-    }
-
-pub output-account : (b : Buffer) (run other : List ℕ) → outputPhase (b .phase) ≡ true
-    → accountOf b run other ≡ output b (b .idx .0) (take (b .«out_len» .0) (cond (b .«have_separate_output») (glyphs other) (glyphs run))) (slice (b .idx .0) (b .len .0) (glyphs run))
-unfolding atPlaces
-output-account b run other h = output-places b (b .idx .0) (b .len .0) (b .«out_len» .0) run other h
-
--- the words from n on, of a slice that has whole glyphs
-pub beyond : (n : ℕ) (ws ws′ : List ℕ) → Whole ws → length ws′ ≡ length ws → drop n (glyphs ws′) ≡ drop n (glyphs ws) → wordsFrom n ws′ ≡ wordsFrom n ws
-beyond n ws ws′ w l e = sym (beyond-glyphs n ws ws′ w (sym l) (sym e))
 
 -- ---- the output goes to the other slice, or need not
 module _ {b : Buffer} {m n : ℕ} {run other : List ℕ} (v : Roomy b m n run other) where

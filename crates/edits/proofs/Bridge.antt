@@ -7,7 +7,8 @@ use lib.Seq.{slice, take-take, drop-drop, length-slice}
 use Rattle.records.specs.{Limits, Glyphs.Glyph, Glyphs.Info, Ranges.edit, Ranges.clusters}
 use Rattle.lists.specs.Account.{State, input, withInput, withDone, withLimits, limiting}
 use Rattle.edits.specs.Holding.{holds, cut}
-use Rattle.edits.proofs.Holding.{slice-join, drop-take, clusters-take, clusters-drop, there-and-back, same-account, edit-take, edit-drop, edit-drop-behind}
+use Rattle.lists.proofs.Copying.{drop-take}
+use Rattle.edits.proofs.Holding.{slice-join, clusters-take, clusters-drop, there-and-back, same-account, edit-take, edit-drop, edit-drop-behind}
 
 -- the input of the account held, and its clusters
 module _ (run out : List (Glyph ℕ)) (gone idx len outLen : ℕ) (k : State) (cursor : gone ≤ idx) (inside : idx ≤ len) (fits : len ≤ length run) where

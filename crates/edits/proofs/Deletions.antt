@@ -1,6 +1,6 @@
 -- Deletion, below its shell: from what the code tests and what its parts promise to the call on the account.
 use mathlib.Core.{Path._≡_, Path.refl, Path.sym, Path.ap, Path._∙_, Path.subst, Bool.Bool, Bool.true, Bool.false, Bool.cond, Bool._&&_, Bool._||_, List.List, List.[], List._∷_, List.reverse-append}
-use Prim.Native.Nat.{ℕ, zero, suc, _+_, _-_, _≤_, _<_}
+use Prim.Native.Nat.{ℕ, suc, _+_, _-_, _≤_, _<_}
 use native.Mathlib.Omega.{arith}
 use borrow.Author.Tests.{le-ltb, lt-ltb}
 use lib.{Dec.eqb, Dec.ltb, ListN.length, ListN.take, ListN.drop, ListN.getD, Seq.slice, Seq.slice-cons}
@@ -11,10 +11,10 @@ use Rattle.lists.specs.declared.{Buffer.Buffer, Reply.Reply}
 use Rattle.lists.specs.{Account.Account, Account.outputPhase, Account.hasOutput, Account.outLen, Account.withDone, Contract.MeetsIn, Cursor.dropping, Results.refused, Results.accepted, Results.refuse_when_else_, State.accountOf, State.goneOf, State.Held, States.reply, States.atPlaces, States.withLimitsOf}
 use Rattle.lists.proofs.{Accounts.output-clean, Accounts.output-of, Accounts.out-of, Accounts.held-lengths, Calls.in-refused, Calls.in-accepted, Copying.range-same, Simple.dropping-of}
 use Rattle.edits.specs.{Acts.Acts, Acts.Mergeful, Deletes.Deletable, Deletes.nextHas, Deletes.lastHas, Deletes.inheriting, Deleting.current, Deleting.inherited, Deleting.survives, Deleting.deleted, Deleting.deleteGlyph, Deleting.mergedForward, Merging.merge, Merging.clustersMerge}
-use Rattle.edits.proofs.Acting.{output-account, output-cong, beyond}
+use Rattle.lists.proofs.Outputs.{output, output-cong, gone-output, output-account, beyond}
 use Rattle.edits.proofs.Holding.{edit-take, edit-drop-behind, clusters-take}
 use Rattle.edits.proofs.Writings.{rest-first, rest-length, rest-short, rest-long, done-last}
-use Rattle.edits.proofs.Replacements.{gone-output, merge-places, limits-first}
+use Rattle.edits.proofs.Replacements.{merge-places, limits-first}
 
 -- ---- whether the cluster survives
 module _ {b : Buffer} {run other : List ℕ} (v : Deletable b run other) where

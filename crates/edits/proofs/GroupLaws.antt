@@ -6,10 +6,10 @@ use native.Mathlib.Numerals.{add-one}
 use borrow.Author.Tests.{eqb-true}
 use lib.{ListN.take, ListN.drop, ListN.length, ListN.getD, ListN.length-map, ListN.length-drop, ListN.drop-of-length-le, ListN.List·getD-map, Seq.slice, Seq.drop-cons, Seq.drop-drop, Seq.getD-take, Seq.length-take-le}
 use Rattle.records.specs.{Phase, Plain, Output, Positions, Spoiled, Position, Glyphs.Glyph, Glyphs.Info, Glyphs.change, Glyphs.withPosition, Glyphs.blank, Glyphs.key, Ranges.infos, Ranges.clusters, Ranges.heads, Ranges.is, Ranges.isnt, View.glyphs, View.placements, View.paired}
-use Rattle.records.proofs.View.{length-paired}
 use Rattle.lists.specs.{Account.spoiledPhase, State.shown}
 use Rattle.lists.proofs.{Runs.heads-le, Infos.map-drop, Infos.words-take, Infos.clusters-infos, Accounts.length-shown}
 use Rattle.edits.specs.Groups.{joins, sizes, sameCluster, continues}
+use Rattle.records.proofs.Pairs.{key-alone, cluster-alone}
 
 -- ---- the first group. In it, p goes by q of f of the glyph that follows
 module _ (p : Info → Info → Bool) (f : Info → ℕ) (q : ℕ → Bool) (goes : (x y : Info) → q (f x) ≡ true → p x y ≡ q (f y)) where
@@ -53,14 +53,6 @@ module _ (f : Info → ℕ) (bare : (p : Position) (i : Info) → f (withPositio
   words-shown Positions run other h = words-paired (glyphs run) (placements other)
   words-shown Spoiled run other h = absurd (false≢true (sym h))
 
-key-bare : (slot mask : ℕ) (p : Position) (i : Info) → key slot mask (withPosition p i) ≡ key slot mask i
-unfolding key withPosition
-key-bare slot mask p i = refl
-
-cluster-bare : (p : Position) (i : Info) → (withPosition p i) .cluster ≡ i .cluster
-unfolding withPosition
-cluster-bare p i = refl
-
 -- ---- of the first len glyphs of a run, a group from s to e
 pub record Group (p : Info → Info → Bool) (l : List (Glyph ℕ)) (len s e : ℕ) : Type 0 where
   pub after : s < e
@@ -97,12 +89,12 @@ module _ (phase : Phase) (run other : List ℕ) {len : ℕ} (clean : spoiledPhas
 
   -- THE LAWS of the two groupings
   pub grapheme-group : (slot mask : ℕ) {s e : ℕ} → s < len → e ≡ s + 1 + heads (isnt 0) (slice (s + 1) len (map (key slot mask) (infos (glyphs run)))) → Group (continues slot mask) (shown phase run other) len s e
-  grapheme-group slot mask o ee = group-seen (key slot mask) (key-bare slot mask) (continues slot mask) (isnt 0) (λ x y h. refl) (blank 0) o (λ y. refl) ee
+  grapheme-group slot mask o ee = group-seen (key slot mask) (key-alone slot mask) (continues slot mask) (isnt 0) (λ x y h. refl) (blank 0) o (λ y. refl) ee
 
   pub cluster-group : {s e : ℕ} → s < len → e ≡ s + 1 + heads (is (getD (clusters (glyphs run)) s 4294967295)) (slice (s + 1) len (clusters (glyphs run))) → Group sameCluster (shown phase run other) len s e
   unfolding blank
   cluster-group {s} {e} o ee =
-      group-seen (λ i. i .cluster) cluster-bare sameCluster (is c) goes (blank 4294967295) o (λ y. ap (λ (n : ℕ). is n (y .cluster)) first)
+      group-seen (λ i. i .cluster) cluster-alone sameCluster (is c) goes (blank 4294967295) o (λ y. ap (λ (n : ℕ). is n (y .cluster)) first)
       (ee ∙ ap (λ (r : List ℕ). s + 1 + heads (is c) (slice (s + 1) len r)) (clusters-infos (glyphs run)))
     where
       c : ℕ
@@ -113,7 +105,7 @@ module _ (phase : Phase) (run other : List ℕ) {len : ℕ} (clean : spoiledPhas
 
       first : getD (infos (take len (shown phase run other))) s (blank 4294967295) .cluster ≡ c
       first = sym (List·getD-map (λ i. i .cluster) (infos (take len (shown phase run other))) s (blank 4294967295))
-          ∙ (ap (λ (r : List ℕ). getD r s 4294967295) (seen-words (λ i. i .cluster) cluster-bare)
+          ∙ (ap (λ (r : List ℕ). getD r s 4294967295) (seen-words (λ i. i .cluster) cluster-alone)
           ∙ (getD-take len (map (λ i. i .cluster) (infos (glyphs run))) s 4294967295 o
           ∙ ap (λ (r : List ℕ). getD r s 4294967295) (sym (clusters-infos (glyphs run)))))
 

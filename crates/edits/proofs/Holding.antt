@@ -1,7 +1,7 @@
 -- Parts of lists: of edited ones, and of parts.
 use mathlib.Core.{Path._≡_, Path.refl, Path.ap, Path.sym, Path._∙_, List.List, List.[], List._∷_, List._++_}
 use Prim.Native.Nat.{ℕ, zero, suc, _+_, _-_, _≤_, zero-le}
-use native.Mathlib.Nat.{le-of-suc-le-suc, not-suc-le-zero, suc-sub-suc, zero-sub, sub-zero}
+use native.Mathlib.Nat.{le-of-suc-le-suc, not-suc-le-zero, suc-sub-suc, sub-zero}
 use native.Mathlib.Omega.{arith}
 use lib.ListN.{take, drop, length, length-take, length-drop, take-append-drop}
 use lib.Seq.{slice, take-take, take-nil, drop-nil, drop-drop, drop-append-le, length-take-le}
@@ -77,12 +77,6 @@ module _ {A : Type 0} where
   slice-shift (suc g) (suc s) zero l le lt = absurd (not-suc-le-zero lt)
   slice-shift (suc g) (suc s) (suc e) [] le lt = rw (take-nil {A = A} (suc e - suc g), drop-nil {A = A} (suc s - suc g))
   slice-shift (suc g) (suc s) (suc e) (x ∷ l) le lt = rw (suc-sub-suc s g, suc-sub-suc e g) (slice-shift g s e l (le-of-suc-le-suc le) (le-of-suc-le-suc lt))
-
-  pub drop-take : (k m : ℕ) (l : List A) → drop k (take m l) ≡ take (m - k) (drop k l)
-  drop-take zero m l = rw (sub-zero m)
-  drop-take (suc k) zero l = rw (zero-sub (suc k))
-  drop-take (suc k) (suc m) [] = sym (take-nil (suc m - suc k))
-  drop-take (suc k) (suc m) (x ∷ l) = rw (suc-sub-suc m k) (drop-take k m l)
 
   pub slice-join : (g i n : ℕ) (l : List A) → g ≤ i → i ≤ n → n ≤ length l → slice g i l ++ slice i n l ≡ slice g n l
   slice-join g i n l o p b =

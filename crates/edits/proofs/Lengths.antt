@@ -11,11 +11,11 @@ use Rattle.lists.specs.declared.{Buffer.Buffer, Reply.Reply, Room.the-variants.
 use Rattle.lists.specs.{Account.Account, Account.positionsPhase, Account.spoiledPhase, Account.hasPositions, Account.len, Account.limiting, Account.sized, Account.failing, Account.withLimits, Account.withRest, Contract.MeetsIn, Filled.filled, Results.refused, Results.accepted, Results.answered, Results.refuse_when_else_, Results.needing, State.shown, State.goneOf, State.stateOf, State.accountOf, State.Held, State.roomFor, States.reply, States.atPlaces, States.withLimitsOf}
 use Rattle.lists.proofs.{Accounts.limits-of, Accounts.len-of, Accounts.fits-within, Accounts.needing-fits, Accounts.needing-gives-up, Accounts.needing-over, Calls.in-refused, Calls.in-accepted, Calls.in-answered, Filling.take-filled, Filling.drop-filled, Accounts.positions-of}
 use Rattle.edits.specs.{Fills.longerBuffer, Fills.Lengthened, WholeRun.notWhole, WholeRun.push, WholeRun.setLength, Wholes.WholeInput}
+use Rattle.lists.proofs.Inner.{limits-side, failing-of, held-failed}
 use Rattle.edits.proofs.Holding.{behind-further, same-account}
 use Rattle.edits.proofs.Pairs.{paired-zeros}
 use Rattle.edits.proofs.Placings.{shown-positions}
 use Rattle.edits.proofs.WholeInputs.{wholeTest, not-not-whole, in-not-whole, whole-gone, account-whole, whole-lengths}
-use Rattle.edits.proofs.Writings.{limits-side, failing-of, held-failed}
 
 shown-plain : (p : Phase) (run other : List ℕ) → positionsPhase p ≡ false → spoiledPhase p ≡ false → shown p run other ≡ glyphs run
 unfolding shown
@@ -139,7 +139,7 @@ module _ (g c : ℕ) where
       pub push-gives-up : {r : Reply} {l : Limits} {f : Buffer} → roomFor (capacityOf (length run)) (b .len .0 + 1) (b .limits) ≡ GivesUp → l ≡ failed (b .limits) → f ≡ withLimitsOf l b → r ≡ reply f Done
           → MeetsIn (λ capacity a. push capacity g c a) b run other r run other
       push-gives-up h el ef er =
-          in-accepted (withLimitsOf (failed (b .limits)) b) (limits-side b run other (failed (b .limits))) refl refl (held-failed b run other (w .held))
+          in-accepted (withLimitsOf (failed (b .limits)) b) (limits-side (failed (b .limits)) b) refl refl (held-failed b run other (w .held))
           (push-is ∙ (needing-gives-up _ _ (accountOf b run other) _ _ (room-of w (b .len .0 + 1) h) ∙ ap accepted (sym (failing-of b run other))))
           (er ∙ ap (λ (k : Buffer). reply k Done) (ef ∙ ap (λ (k : Limits). withLimitsOf k b) el))
 
@@ -256,7 +256,7 @@ module _ (n : ℕ) where
     pub length-gives-up : {r : Reply} {l : Limits} {f : Buffer} → roomFor (capacityOf (length run)) n (b .limits) ≡ GivesUp → l ≡ failed (b .limits) → f ≡ withLimitsOf l b → r ≡ reply f (Value 0)
         → MeetsIn (λ capacity a. setLength 0 capacity n a) b run other r run other
     length-gives-up h el ef er =
-        in-answered (withLimitsOf (failed (b .limits)) b) (limits-side b run other (failed (b .limits))) refl refl (held-failed b run other (w .held)) 0
+        in-answered (withLimitsOf (failed (b .limits)) b) (limits-side (failed (b .limits)) b) refl refl (held-failed b run other (w .held)) 0
         (length-is ∙ (needing-gives-up _ _ (accountOf b run other) _ _ (room-of w n h) ∙ ap (answered 0) (sym (failing-of b run other))))
         (er ∙ ap (λ (k : Buffer). reply k (Value 0)) (ef ∙ ap (λ (k : Limits). withLimitsOf k b) el))
 

@@ -9,21 +9,19 @@ use Rattle.records.proofs.View.{glyphs-same, whole-same, beyond-glyphs}
 use Rattle.lists.specs.declared.{Buffer.Buffer, Reply.Reply}
 use Rattle.lists.specs.{Account.Account, Account.State, Account.outputPhase, Account.spoiledPhase, Account.isSpoiled, Account.withLimits, Contract.MeetsIn, Results.refused, Results.accepted, Results.Result, Results.refuse_when_else_, State.shown, State.goneOf, State.stateOf, State.accountOf, State.Held, States.reply, States.withLimitsOf}
 use Rattle.lists.proofs.{Accounts.spoiled-of, Accounts.len-of, Calls.in-refused, Calls.in-accepted, Calls.in-call, Accounts.gone-of}
-use Rattle.edits.specs.{Acts.Acts, Acts.Mergeful, Flags.interior, Flags.sought, Flags.flagInterior, Holding.holds, Holding.paid, Holding.cut, Merging.merge, Merging.merged, Merging.graphemesMerge, Merging.mergeInput, Merging.outsideInput, Plans.InputRange, Plans.InputFrom, Plans.Mergeable, Plans.MergedApart, Plans.MergedWithin, Plans.mergePlan, Plans.mergedRun, Plans.mergedTail}
+use Rattle.edits.specs.{Acts.Acts, Acts.Mergeful, Flags.interior, Flags.sought, Flags.flagInterior, Holding.holds, Holding.cut, Merging.merge, Merging.merged, Merging.graphemesMerge, Merging.mergeInput, Merging.outsideInput, Plans.InputRange, Plans.InputFrom, Plans.Mergeable, Plans.MergedApart, Plans.MergedWithin, Plans.mergePlan, Plans.mergedRun, Plans.mergedTail}
+use Rattle.lists.proofs.Outputs.{goneIn, shown-output}
+use Rattle.lists.proofs.Inner.{held-paid}
 use Rattle.edits.proofs.MergeLaws.{mergeable, merged-within}
 use Rattle.edits.proofs.FlagLaws.{flagged-held, flagged-within, interior-behind}
 use Rattle.edits.proofs.Places.{paired-within, paired-flagged}
 use Rattle.edits.proofs.Holding.{behind-further}
-use Rattle.edits.proofs.Acting.{shown-output}
 
 -- ---- the account of a buffer is that of its lists
 none-taken : {A : Type 0} (n : ℕ) (x y : List A) → n ≡ 0 → take n x ≡ take n y
 none-taken n x y e = ap (λ (k : ℕ). take k x) e ∙ sym (ap (λ (k : ℕ). take k y) e)
 
 -- what `goneOf` says of a phase
-abbrev pub goneIn : Phase → ℕ → ℕ → ℕ
-goneIn p i l = elim p [ Plain ↦ 0 | Output ↦ i | Positions ↦ 0 | Spoiled ↦ l ]
-
 gone-before : (p : Phase) (i l : ℕ) → spoiledPhase p ≡ false → goneIn p i l ≤ i
 gone-before Plain i l h = omega arith
 gone-before Output i l h = omega arith
@@ -98,10 +96,6 @@ module _ (run run′ other : List ℕ) {gone idx len outLen s e : ℕ} (w : Inpu
 
 -- ---- from the glyphs to what a function leaves
 module _ {b : Buffer} {run other : List ℕ} (v : Held b run other) where
-  held-paid : (n : ℕ) → Held (withLimitsOf (costs n (b .limits)) b) run other
-  unfolding withLimitsOf costs
-  held-paid n = record { idx-in = v .idx-in; len-in = v .len-in; out-in = v .out-in; all-in = v .all-in; most = v .most; same = v .same; whole = v .whole; behind = v .behind; none = v .none }
-
   -- h on the account, with a cost of n
   pub acts-paid : (h : Account ℕ → Account ℕ) (n : ℕ) {l : Limits} {r : Buffer} {run′ other′ : List ℕ} → l ≡ costs n (b .limits) → r ≡ withLimitsOf l b → length run′ ≡ length run → length other′ ≡ length other
       → drop (b .len .0) (glyphs run′) ≡ drop (b .len .0) (glyphs run) → drop (b .«out_len» .0) (glyphs other′) ≡ drop (b .«out_len» .0) (glyphs other)
@@ -116,7 +110,7 @@ module _ {b : Buffer} {run other : List ℕ} (v : Held b run other) where
           side = refl;
           run-beyond = sym (beyond-glyphs a run run′ (v .whole) (sym lr) (sym (behind-further (b .len .0) a (glyphs run) (glyphs run′) (v .len-in) dr)));
           other-beyond = sym (beyond-glyphs a other other′ (whole-same run other (v .same) (v .whole)) (sym lo) (sym (behind-further (b .«out_len» .0) a (glyphs other) (glyphs other′) (v .out-in) d)));
-          held = held-paid n;
+          held = held-paid b run other v n;
         },
         refl,
       )

@@ -1,23 +1,17 @@
 -- Merges of a buffer's output: from what the slice workers leave to the account, and the calls on it.
-use mathlib.Core.{Path._≡_, Path.refl, Path.sym, Path.ap, Path._∙_, Path.subst, Bool.Bool, Bool.true, Bool.false, Bool._&&_, Bool._||_, Bool.false≢true, List.List}
+use mathlib.Core.{Path._≡_, Path.refl, Path.sym, Path.ap, Path._∙_, Bool.Bool, Bool.true, Bool.false, Bool._&&_, Bool._||_, Bool.false≢true, List.List}
 use Prim.Native.Nat.{ℕ, _-_, _≤_, _<_}
 use native.Mathlib.Omega.{arith}
 use borrow.Author.Tests.{le-ltb, lt-ltb}
 use lib.{Dec.ltb, ListN.length}
-use Rattle.records.specs.{Phase, Plain, Output, Positions, Spoiled, DonePlace, WrongPhase, OutOfRange, Done, No, Limits, Glyphs.Glyph, Counters.costs, View.glyphs, View.wordsFrom}
+use Rattle.records.specs.{DonePlace, WrongPhase, OutOfRange, Done, No, Limits, Glyphs.Glyph, Counters.costs, View.glyphs}
 use Rattle.records.proofs.View.{glyphs-same}
 use Rattle.lists.specs.declared.{Buffer.Buffer, Reply.Reply}
 use Rattle.lists.specs.{Account.Account, Account.outputPhase, Account.hasOutput, Account.outLen, Account.withLimits, Contract.MeetsIn, Results.refused, Results.accepted, Results.refuse_when_else_, State.goneOf, State.stateOf, State.accountOf, State.Held, States.reply, States.withLimitsOf}
-use Rattle.lists.proofs.{Accounts.output-of, Accounts.out-of, Calls.in-refused, Calls.in-accepted, Calls.in-call}
+use Rattle.lists.proofs.{Accounts.output-of, Accounts.out-of, Calls.in-refused, Calls.in-call}
 use Rattle.edits.specs.{Acts.Acts, Acts.OutMergeful, Holding.holds, Merging.mergeOut, Merging.mergedOut, Merging.mergeDone, Plans.OutMergeable, Plans.MergedOutApart, Plans.MergedOutWithin}
-use Rattle.edits.proofs.Acting.{shown-output}
-use Rattle.edits.proofs.MergeCalls.{goneIn, account-apart, account-within, acts-paid, acts-free, in-acts}
-
-gone-out : (p : Phase) (i l : ℕ) → outputPhase p ≡ true → goneIn p i l ≡ i
-gone-out Plain i l h = absurd (false≢true h)
-gone-out Output i l h = refl
-gone-out Positions i l h = absurd (false≢true h)
-gone-out Spoiled i l h = absurd (false≢true h)
+use Rattle.lists.proofs.Outputs.{gone-out, shown-output}
+use Rattle.edits.proofs.MergeCalls.{account-apart, account-within, acts-paid, acts-free, in-acts}
 
 both-is : (x y z : Bool) → x ≡ true → y ≡ z → (x && y) ≡ z
 both-is x y z h k = rw h k

@@ -1,16 +1,17 @@
 -- The outbuffer flag forms: from what the slice workers leave to the account, and the calls.
-use mathlib.Core.{Path._≡_, Path.refl, Path.sym, Path.ap, Path._∙_, Path.subst, Bool.Bool, Bool.true, Bool.false, Bool.not, Bool._||_, Bool.false≢true, Option.Option, List.List}
+use mathlib.Core.{Path._≡_, Path.refl, Path.sym, Path.ap, Path._∙_, Path.subst, Bool.Bool, Bool.true, Bool.false, Bool.not, Bool._||_, Option.Option, List.List}
 use Prim.Native.Nat.{ℕ, _-_, _≤_, _<_}
 use native.Mathlib.Omega.{arith}
 use borrow.Author.Tests.{le-ltb, lt-ltb}
 use lib.{Dec.ltb, ListN.length}
-use Rattle.records.specs.{Phase, Plain, Output, Positions, Spoiled, DonePlace, InputPlace, WrongPhase, OutOfRange, Done, No, Glyphs.Glyph, Glyphs.flagged, Ranges.edit, View.glyphs}
+use Rattle.records.specs.{DonePlace, InputPlace, WrongPhase, OutOfRange, Done, No, Glyphs.Glyph, Glyphs.flagged, Ranges.edit, View.glyphs}
 use Rattle.records.proofs.View.{glyphs-same}
 use Rattle.lists.specs.declared.{Buffer.Buffer, Reply.Reply}
-use Rattle.lists.specs.{Account.Account, Account.outputPhase, Account.spoiledPhase, Account.hasOutput, Account.len, Account.idx, Account.outLen, Account.withLimits, Contract.MeetsIn, Results.refused, Results.accepted, Results.refuse_when_else_, State.stateOf, State.Held, States.reply, States.withLimitsOf}
+use Rattle.lists.specs.{Account.Account, Account.outputPhase, Account.hasOutput, Account.len, Account.idx, Account.outLen, Account.withLimits, Contract.MeetsIn, Results.refused, Results.accepted, Results.refuse_when_else_, State.stateOf, State.Held, States.reply, States.withLimitsOf}
 use Rattle.lists.proofs.{Accounts.output-of, Accounts.out-of, Accounts.idx-of, Calls.in-refused, Calls.in-accepted}
 use Rattle.edits.specs.declared.{InputBound.InputBound, DoneBound.DoneBound}
 use Rattle.edits.specs.{Acts.Acts, Bounds.inputBound, Bounds.inputNumber, Bounds.doneBound, Bounds.doneNumber, Flags.interior, Flags.flagOutInterior, Flags.flagOutAll, Flags.number, Flags.tooFar, Flags.startOf, Flags.endOf, Flags.outbufferForm, Flags.wantsConcat, Marks.soughtOut, Marks.flagOut, Marks.OutFlaggable, Plans.OutRange}
+use Rattle.lists.proofs.Accounts.{output-clean}
 use Rattle.edits.proofs.BoundLaws.{end-most}
 use Rattle.edits.proofs.FlagLaws.{interior-behind, interior-length}
 use Rattle.edits.proofs.OutFlags.{out-flagged-apart, out-all-apart, out-flagged-within, out-all-within}
@@ -118,12 +119,6 @@ module _ (interiorly wanted : Bool) (bits : ℕ) (s : Option DonePlace) (e : Opt
       unfolding outbufferForm refuse_when_else_ flagOut
       out-flags o = rw (h, k, ← ei, ← ej, ← ex, ← en, o)
 
-output-whole : (p : Phase) → outputPhase p ≡ true → spoiledPhase p ≡ false
-output-whole Plain h = refl
-output-whole Output h = refl
-output-whole Positions h = refl
-output-whole Spoiled h = absurd (false≢true h)
-
 -- the places of an outbuffer form
 pub out-in-room : {b : Buffer} {run other : List ℕ} (v : Held b run other) (e : InputBound) {i j : ℕ} → outputPhase (b .phase) ≡ true → j ≡ endOf (inputNumber e) (b .len .0) → i ≤ b .«out_len» .0 → b .idx .0 ≤ j → OutFlaggable b i j run other
 out-in-room {b = b} v e h ej o p = record { held = v; output = h; order = o; start = p; end = subst (λ (x : ℕ). x ≤ b .len .0) (sym ej) (end-most (inputNumber e) (b .len .0)) }
@@ -147,7 +142,7 @@ module _ {b : Buffer} {run other : List ℕ} (v : Held b run other) (interiorly 
       module _ (k : t ≡ false) {i j : ℕ} (ei : i ≡ startOf (doneNumber s)) (ej : j ≡ endOf (inputNumber e) (b .len .0)) where
         outside : (ltb (b .«out_len» .0) i || ltb j (b .idx .0)) ≡ true → r ≡ reply b (No OutOfRange) → MeetsIn (λ capacity a. outbufferForm interiorly wanted bits (doneBound s) (inputBound e) a) b run other r run other
         outside o er =
-            in-refused OutOfRange (out-outside interiorly wanted bits (doneBound s) (inputBound e) _ (output-of b run other ∙ h) (wanted-far wanted _ false w et k) ei (end-is v e (output-whole (b .phase) h) ej) (sym (idx-of b run other v (output-whole (b .phase) h))) (sym (out-of b run other v)) o) v er
+            in-refused OutOfRange (out-outside interiorly wanted bits (doneBound s) (inputBound e) _ (output-of b run other ∙ h) (wanted-far wanted _ false w et k) ei (end-is v e (output-clean (b .phase) h) ej) (sym (idx-of b run other v (output-clean (b .phase) h))) (sym (out-of b run other v)) o) v er
 
         pub out-in-start : b .«out_len» .0 < i → r ≡ reply b (No OutOfRange) → MeetsIn (λ capacity a. outbufferForm interiorly wanted bits (doneBound s) (inputBound e) a) b run other r run other
         out-in-start o er = outside (rw (lt-ltb (b .«out_len» .0) i o)) er
@@ -161,7 +156,7 @@ module _ {b : Buffer} {run other : List ℕ} (v : Held b run other) (interiorly 
                 → MeetsIn (λ capacity a. outbufferForm interiorly wanted bits (doneBound s) (inputBound e) a) b run other r run′ other′
             out-in-flags u er =
                 in-acts u
-                (out-flags interiorly wanted bits (doneBound s) (inputBound e) _ (output-of b run other ∙ h) (wanted-far wanted _ false w et k) ei (end-is v e (output-whole (b .phase) h) ej) (sym (idx-of b run other v (output-whole (b .phase) h))) (sym (out-of b run other v))
+                (out-flags interiorly wanted bits (doneBound s) (inputBound e) _ (output-of b run other ∙ h) (wanted-far wanted _ false w et k) ei (end-is v e (output-clean (b .phase) h) ej) (sym (idx-of b run other v (output-clean (b .phase) h))) (sym (out-of b run other v))
                 (rw (le-ltb (b .«out_len» .0) i o, le-ltb j (b .idx .0) p))) er
 
 pub out-concat : {b : Buffer} {run other : List ℕ} {r : Reply} {run′ other′ : List ℕ} {x : Bool} (s : Option DonePlace) (e : Option InputPlace) → x ≡ wantsConcat (b .wants)

@@ -10,7 +10,8 @@ use Rattle.lists.specs.Account.{Account, State, input, outLen as outLenOf}
 use Rattle.edits.specs.Flags.{interior, sought, flagAll, flagOutInterior, flagOutAll}
 use Rattle.edits.specs.Holding.{holds, cut}
 use Rattle.edits.specs.Plans.{OutRange}
-use Rattle.edits.proofs.Holding.{drop-take, slice-take, edit-take, edit-take-before}
+use Rattle.lists.proofs.Copying.{drop-take}
+use Rattle.edits.proofs.Holding.{slice-take, edit-take, edit-take-before}
 use Rattle.edits.proofs.Bridge.{input-is, input-clusters, done-is, done-clusters, holds-with, input-edit, input-kept}
 use Rattle.edits.proofs.FlagLaws.{level-held, interior-in, interior-length, interior-behind, interior-before}
 

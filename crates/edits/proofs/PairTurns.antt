@@ -1,11 +1,10 @@
 -- Phase positions: glyphs and positions turned round alike are their pairs turned round.
-use mathlib.Core.{Path._≡_, Path.refl, Path.ap, Path.ap₂, Path.sym, Path._∙_, List.List, List.[], List._∷_, List._++_, List.reverse, List.reverse-cons}
-use Prim.Native.Nat.{ℕ, zero, suc, _-_, _≤_}
-use native.Mathlib.Nat.{suc-inj}
+use mathlib.Core.{Path._≡_, Path.ap, Path.ap₂, Path.sym, Path._∙_, List.List, List._++_, List.reverse}
+use Prim.Native.Nat.{ℕ, _-_, _≤_}
 use native.Mathlib.Omega.{arith}
 use lib.ListN.{take, drop, length, length-reverse}
-use lib.Seq.{slice, take-nil, drop-nil, length-take-le, length-slice}
-use Rattle.records.specs.{Position, Glyphs.Glyph, Glyphs.change, Glyphs.withPosition, View.paired}
+use lib.Seq.{slice, length-take-le, length-slice}
+use Rattle.records.specs.{Position, Glyphs.Glyph, View.paired}
 use Rattle.records.proofs.Pairs.{paired-take, paired-drop, paired-append, paired-reverse}
 use Rattle.lists.specs.Turned.{turned}
 

@@ -1,13 +1,13 @@
 -- Glyphs with and without positions: a deletion does the same to both, in whatever phase.
 use mathlib.Core.{Path._≡_, Path.refl, Path.sym, Path.ap, Path._∙_, Bool.Bool, Bool.true, Bool.false, Bool.cond, Bool._&&_, List.List, List.[], List._∷_}
-use Prim.Native.Nat.{ℕ, zero, suc, _+_, _-_, _≤_, _<_, zero-le}
-use native.Mathlib.Nat.{le-of-suc-le-suc, not-suc-le-zero}
+use Prim.Native.Nat.{ℕ, _+_, _-_, _≤_, _<_, zero-le}
 use native.Mathlib.Omega.{arith}
-use lib.{Dec.ltb, ListN.length, ListN.take, ListN.drop, ListN.getD, ListN.set, Seq.slice, Seq.take-nil, Seq.drop-nil}
-use Rattle.records.specs.{Phase, Position, Counters.costs, Glyphs.Glyph, Glyphs.Info, Glyphs.blank, Glyphs.change, Glyphs.key, Glyphs.withPosition, Glyphs.zeroPosition, Glyphs.setCluster, Ranges.clusters, Ranges.infos, Ranges.edit, Ranges.is, Ranges.isnt, Ranges.least, Ranges.first, Ranges.last, Ranges.heads, Ranges.tails, View.paired, View.zeroGlyph}
+use lib.{Dec.ltb, ListN.length, ListN.take, ListN.drop, ListN.getD, ListN.set, Seq.slice}
+use Rattle.records.specs.{Phase, Position, Counters.costs, Glyphs.Glyph, Glyphs.Info, Glyphs.blank, Glyphs.change, Glyphs.withPosition, Glyphs.zeroPosition, Glyphs.setCluster, Ranges.clusters, Ranges.infos, Ranges.edit, Ranges.is, Ranges.isnt, Ranges.least, Ranges.first, Ranges.last, Ranges.heads, Ranges.tails, View.paired, View.zeroGlyph}
 use Rattle.records.proofs.{View.length-paired, View.length-clusters, Pairs.paired-take, Pairs.paired-drop, Pairs.paired-set, Pairs.paired-at}
 use Rattle.lists.specs.{Account.Account, Account.State, Account.inPhase, Account.withGone, Account.withLimits, Account.input, Account.limiting, Account.paying, Account.withInput, Account.withDone, Cursor.dropping}
 use Rattle.edits.specs.{Deleting.current, Deleting.survives, Deleting.inherited, Deleting.mergedForward, Deleting.deleted, Flags.interior, Flags.sought, Flags.flagInterior, Merging.mergeEnd, Merging.mergeStart, Merging.mergeTail, Merging.merged, Merging.merge, Merging.clustersMerge, Underway.pairing}
+use Rattle.records.proofs.Pairs.{cluster-alone, mask-alone}
 use Rattle.edits.proofs.Holding.{same-account}
 use Rattle.edits.proofs.Places.{Apart, set-apart, clusters-paired, paired-edit, paired-interior}
 
@@ -83,19 +83,6 @@ module _ (t : Bool) (l : List (Glyph ℕ)) (ps : List Position) where
 
 pub pairing-slice : (t : Bool) (l : List (Glyph ℕ)) (ps : List Position) (i j : ℕ) → slice i j (pairing t l ps) ≡ pairing t (slice i j l) (slice i j ps)
 pairing-slice t l ps i j = ap (drop i) (pairing-take t l ps j) ∙ pairing-drop t (take j l) (take j ps) i
-
--- the words of the glyph at the cursor
-cluster-alone : (p : Position) (i : Info) → (withPosition p i) .cluster ≡ i .cluster
-unfolding withPosition
-cluster-alone p i = refl
-
-mask-alone : (p : Position) (i : Info) → (withPosition p i) .mask ≡ i .mask
-unfolding withPosition
-mask-alone p i = refl
-
-pub key-alone : (slot m : ℕ) (p : Position) (i : Info) → key slot m (withPosition p i) ≡ key slot m i
-unfolding key withPosition
-key-alone slot m p i = refl
 
 -- ---- ranges of a merge
 start-end : (s e : ℕ) (cs : List ℕ) → s ≤ e → mergeStart 0 s e cs ≤ mergeEnd s e cs

@@ -1,10 +1,8 @@
 -- Glyphs with their positions, in parts.
-use mathlib.Core.{Path._≡_, Path.refl, Path.ap, Path._∙_, List.List, List.[], List._∷_, List._++_}
+use mathlib.Core.{Path._≡_, Path.refl, Path.ap, List.List, List.[], List._∷_}
 use Prim.Native.Nat.{ℕ, zero, suc, _<_}
 use native.Mathlib.Nat.{le-of-suc-le-suc, not-suc-le-zero}
-use native.Mathlib.Omega.{arith}
-use lib.ListN.{length, take, getD, set, replicate}
-use lib.Seq.{take-nil}
+use lib.ListN.{length, getD, set, replicate}
 use Rattle.records.specs.{Position, Glyphs.Glyph, Glyphs.change, Glyphs.withCluster, Glyphs.withPosition, Glyphs.blank, Glyphs.zeroPosition, Ranges.edit, View.paired}
 use Rattle.edits.specs.{Fills.repositioned, WholeRun.placed, WholeRun.numbered}
 

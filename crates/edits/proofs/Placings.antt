@@ -10,9 +10,10 @@ use Rattle.lists.specs.declared.{Buffer.Buffer, Reply.Reply}
 use Rattle.lists.specs.{Account.Account, Account.State, Account.outputPhase, Account.positionsPhase, Account.spoiledPhase, Account.hasPositions, Account.input, Account.len, Account.withInput, Account.withLimits, Contract.MeetsIn, Results.refused, Results.accepted, Results.refuse_when_else_, State.shown, State.goneOf, State.stateOf, State.accountOf, State.Held, States.reply, States.withLimitsOf}
 use Rattle.lists.proofs.{Accounts.len-of, Calls.in-refused, Calls.in-accepted, Accounts.positions-of}
 use Rattle.edits.specs.{Fills.repositioned, Holding.holds, WholeRun.placed, WholeRun.place}
+use Rattle.lists.proofs.Outputs.{goneIn}
 use Rattle.edits.proofs.Bridge.{input-is, holds-input}
 use Rattle.edits.proofs.Holding.{edit-take}
-use Rattle.edits.proofs.MergeCalls.{account-within, goneIn}
+use Rattle.edits.proofs.MergeCalls.{account-within}
 use Rattle.edits.proofs.Pairs.{paired-placed}
 
 -- ---- phase positions

@@ -4,12 +4,13 @@ use Prim.Native.Nat.{ℕ, _+_, _-_, _/_, _%_, _≤_, _<_}
 use native.Mathlib.Omega.{arith}
 use borrow.Author.Tests.{eq-eqb, ne-eqb, le-leb, lt-leb}
 use lib.{Dec.leb, Bits.bitAnd, Bits.bitOr, ListN.take, ListN.drop, ListN.length, ListN.getD, Seq.slice}
-use Rattle.records.specs.{Phase, Plain, Output, Positions, Spoiled, Position, WrongPhase, Done, Glyphs.Glyph, Glyphs.Info, Glyphs.withMask, Glyphs.withPosition, Ranges.infos, Ranges.clusters, Ranges.edit, Ranges.heads, Ranges.is, View.glyphs, View.placements}
+use Rattle.records.specs.{Phase, Plain, Output, Positions, Spoiled, WrongPhase, Done, Glyphs.Glyph, Glyphs.Info, Glyphs.withMask, Glyphs.withPosition, Ranges.infos, Ranges.clusters, Ranges.edit, Ranges.heads, Ranges.is, View.glyphs, View.placements}
 use Rattle.records.proofs.View.{glyphs-same}
 use Rattle.lists.specs.declared.{Buffer.Buffer, Reply.Reply}
 use Rattle.lists.specs.{Account.Account, Account.withRest, Account.spoiledPhase, Contract.MeetsIn, Masks.joinedLow, Results.refused, Results.accepted, Results.refuse_when_else_, State.shown, State.accountOf, States.reply}
 use Rattle.lists.proofs.{Accounts.wants-of, Infos.map-take, Infos.map-drop, Infos.words-edit}
 use Rattle.edits.specs.{Acts.Acts, Groups.sizes, Groups.sameCluster, Groups.joined, Groups.settled, Groups.propagated, Groups.propagateFlags, WholeRun.notWhole, Wholes.WholeInput}
+use Rattle.records.proofs.Pairs.{mask-alone}
 use Rattle.edits.proofs.{Holding.edit-take, Holding.edit-drop-behind, Holding.slice-take, Places.Apart, Places.paired-edit, WholeInputs.whole-acts, MergeCalls.in-acts, WholeInputs.not-not-whole, GroupLaws.Group, GroupLaws.no-group, GroupLaws.cluster-group, GroupLaws.clusters-same, GroupLaws.seen-words}
 
 -- ---- what joined bits become
@@ -51,10 +52,6 @@ joined-low : (l : List Info) → joined l ≡ joinedLow (map maskOf l)
 unfolding joined joinedLow
 joined-low [] = refl
 joined-low (i ∷ l) = ap (bitOr (i .mask % 8)) (joined-low l)
-
-mask-bare : (p : Position) (i : Info) → (withPosition p i) .mask ≡ i .mask
-unfolding withPosition
-mask-bare p i = refl
 
 mask-apart : (m : ℕ) → Apart (withMask m)
 unfolding Apart withMask withPosition
@@ -106,7 +103,7 @@ module _ {b : Buffer} {run other : List ℕ} (w : WholeInput b run other) where
           let l : List Info = infos (seenRun b run′ other) in
           sym (map-drop maskOf s (take e l)
           ∙ (ap (drop s) (map-take maskOf e l)
-          ∙ (ap (slice s e) (seen-words (b .phase) run′ other (w .clean) (v .fits) maskOf mask-bare)
+          ∙ (ap (slice s e) (seen-words (b .phase) run′ other (w .clean) (v .fits) maskOf mask-alone)
           ∙ slice-take s e (b .len .0) (map maskOf (infos (glyphs run′))) (g .inside))))
 
       group-mask : settled (b .wants) (joinedLow (slice s e (map maskOf (infos (glyphs run′))))) ≡ settled (b .wants) (joined (slice s e (infos (seenRun b run′ other))))

@@ -8,8 +8,9 @@ use Rattle.records.specs.{Glyphs.Glyph, Glyphs.Info, Ranges.infos}
 use Rattle.lists.specs.Turned.{turned}
 use Rattle.lists.proofs.Infos.{infos-drop}
 use Rattle.edits.specs.Groups.{sizes, regrouped}
+use Rattle.lists.proofs.Copying.{drop-take}
 use Rattle.edits.proofs.TurnParts.{turned-length, turned-drop, turned-front, turned-all}
-use Rattle.edits.proofs.Holding.{drop-take, behind-further, there-and-back}
+use Rattle.edits.proofs.Holding.{behind-further, there-and-back}
 
 module _ {G : Type 0} where
   infos-same : (n : ℕ) (l m : List (Glyph G)) → drop n l ≡ drop n m → drop n (infos l) ≡ drop n (infos m)

@@ -1,28 +1,19 @@
 -- Calls that replace glyphs, below their shells: from what the code tests and what its parts promise to the call on the account.
-use mathlib.Core.{Path._≡_, Path.refl, Path.sym, Path.ap, Path._∙_, Path.subst, Bool.true, Bool.false, Bool.false≢true, List.List}
+use mathlib.Core.{Path._≡_, Path.refl, Path.sym, Path.ap, Path._∙_, Path.subst, Bool.true, Bool.false, List.List}
 use Prim.Native.Nat.{ℕ, _+_, _-_, _≤_, _<_, max}
 use native.Mathlib.Omega.{arith}
 use borrow.Author.Tests.{le-ltb, lt-ltb}
 use lib.{Dec.ltb, ListN.length, ListN.take, ListN.getD}
-use Rattle.records.specs.{Phase, Plain, Output, Positions, Spoiled, WrongPhase, OutOfRange, BadOperand, OverCapacity, Done, No, Limits, Counters.capacityOf, Counters.failed, Counters.grown, Glyphs.Glyph, Glyphs.Info, View.glyphs, View.seen, View.zeroGlyph, View.wordsFrom}
+use Rattle.records.specs.{WrongPhase, OutOfRange, BadOperand, OverCapacity, Done, No, Limits, Counters.capacityOf, Counters.failed, Counters.grown, Glyphs.Glyph, Glyphs.Info, View.glyphs, View.seen, View.zeroGlyph, View.wordsFrom}
 use Rattle.records.specs.declared.{Glyph.Glyph as Words}
 use Rattle.records.proofs.View.{glyphs-same}
 use Rattle.lists.specs.declared.{Buffer.Buffer, Reply.Reply, Room.the-variants.Fits, Room.the-variants.GivesUp, Room.the-variants.Over}
-use Rattle.lists.specs.{Account.Account, Account.outputPhase, Account.hasOutput, Account.outLen, Account.sized, Account.limiting, Account.withLimits, Contract.MeetsIn, Moving.SyncOutput, Results.refused, Results.refuse_when_else_, State.accountOf, State.stateOf, State.goneOf, State.Held, State.roomFor, States.reply, States.withLimitsOf}
+use Rattle.lists.specs.{Account.Account, Account.outputPhase, Account.hasOutput, Account.outLen, Account.sized, Account.limiting, Account.withLimits, Contract.MeetsIn, Moving.SyncOutput, Results.refused, Results.refuse_when_else_, State.accountOf, State.goneOf, State.Held, State.roomFor, States.reply, States.withLimitsOf}
 use Rattle.lists.proofs.{Accounts.output-clean, Accounts.output-of, Accounts.held-lengths, Calls.in-refused, Calls.in-call, Accounts.level-of}
 use Rattle.edits.specs.{Acts.Acts, Acts.Writable, Acts.Parted, Acts.Mergeful, Acts.replacing, Merging.merge, Merging.clustersMerge, Replaces.replaced, Replaces.writesReplaced, Writing.model, Writing.replaceGlyphs}
-use Rattle.edits.proofs.Writings.{limits-side, sized-of, out-size, rest-first, rest-length, model-rest, writing-over, writing-gives-up, writing-done}
-
--- with output the input before the cursor is gone
-pub gone-output : (b : Buffer) → outputPhase (b .phase) ≡ true → goneOf b ≡ b .idx .0
-unfolding goneOf
-gone-output b o = by-phase (b .phase) o
-  where
-    by-phase : (q : Phase) → outputPhase q ≡ true → _≡_ {A = ℕ} (elim q [ Plain ↦ 0 | Output ↦ b .idx .0 | Positions ↦ 0 | Spoiled ↦ b .len .0 ]) (b .idx .0)
-    by-phase Plain h = absurd (false≢true h)
-    by-phase Output h = refl
-    by-phase Positions h = absurd (false≢true h)
-    by-phase Spoiled h = absurd (false≢true h)
+use Rattle.lists.proofs.Inner.{limits-side, sized-of}
+use Rattle.lists.proofs.Outputs.{gone-output}
+use Rattle.edits.proofs.Writings.{out-size, rest-first, rest-length, model-rest, writing-over, writing-gives-up, writing-done}
 
 module _ (b : Buffer) (run other : List ℕ) (o : outputPhase (b .phase) ≡ true) where
   -- a merge from the cursor on, counted in the run and counted in the input
@@ -126,7 +117,7 @@ module _ {b : Buffer} {run other : List ℕ} (v : SyncOutput b run other) (m n :
     pub replace-done : {r : Reply} {f : Buffer} {run′ other′ : List ℕ} → length other₁ ≡ length other → Acts (replaced m n gs) q run other₁ f run′ other′ → r ≡ reply f Done → MeetsIn (λ capacity a. writesReplaced m n gs capacity a) b run other r run′ other′
     unfolding writesReplaced
     replace-done {r} {f} {run′} {other′} lo u er =
-        let side : f .swapped ≡ b .swapped = u .side ∙ (p .acts .side ∙ (ap (λ (k : Buffer). k .swapped) grown-is ∙ limits-side b run other (grown (b .«out_len» .0 + n) (b .limits)))) in
+        let side : f .swapped ≡ b .swapped = u .side ∙ (p .acts .side ∙ (ap (λ (k : Buffer). k .swapped) grown-is ∙ limits-side (grown (b .«out_len» .0 + n) (b .limits)) b)) in
         let br : wordsFrom (f .limits .allocated) run′ ≡ wordsFrom (f .limits .allocated) run = subst (λ (k : ℕ). wordsFrom k run′ ≡ wordsFrom k run) (sym (u .size)) (u .run-beyond) in
         let bo : wordsFrom (f .limits .allocated) other′ ≡ wordsFrom (f .limits .allocated) other₁ = subst (λ (k : ℕ). wordsFrom k other′ ≡ wordsFrom k other₁) (sym (u .size)) (u .other-beyond) in
         let bp : wordsFrom (f .limits .allocated) other₁ ≡ wordsFrom (f .limits .allocated) other = subst (λ (k : ℕ). wordsFrom k other₁ ≡ wordsFrom k other) (sym (u .size ∙ p .acts .size)) (p .acts .other-beyond) in

@@ -7,10 +7,10 @@ use Rattle.records.specs.{Phase, Plain, Output, Positions, Spoiled, InputPlace,
 use Rattle.records.proofs.View.{glyphs-same, placements-glyphs}
 use Rattle.lists.specs.declared.{Buffer.Buffer, Reply.Reply}
 use Rattle.lists.specs.{Account.Account, Account.positionsPhase, Account.spoiledPhase, Account.withRest, Contract.MeetsIn, Results.refused, Results.accepted, Results.refuse_when_else_, State.shown, State.goneOf, State.accountOf, States.reply, Turned.turned}
-use Rattle.lists.proofs.{Accounts.rest-of, Calls.in-refused}
+use Rattle.lists.proofs.{Calls.in-refused}
 use Rattle.edits.specs.{Acts.Acts, WholeRun.notWhole, WholeRun.reverseRun, WholeRun.reverseRange, Merging.outsideInput, Groups.sizes, Groups.sameCluster, Groups.regrouped, Groups.reverseClusters, Wholes.WholeInput, Reversals.Rearranges}
 use Rattle.edits.proofs.MergeCalls.{outside-of, in-mergeful, in-acts}
-use Rattle.edits.proofs.WholeInputs.{not-not-whole, account-whole, whole-acts}
+use Rattle.edits.proofs.WholeInputs.{not-not-whole, account-whole, whole-rest, whole-acts}
 use Rattle.edits.proofs.TurnParts.{turned-take, turned-drop, turned-all}
 use Rattle.edits.proofs.PairTurns.{paired-turned}
 
@@ -25,11 +25,8 @@ module _ {b : Buffer} {run other : List ℕ} (w : WholeInput b run other) where
   pub places-fit : b .len .0 ≤ length (placements other)
   places-fit = omega (arith, run-fits, places-same)
 
-  rest-length : length ((accountOf b run other) .rest) ≡ b .len .0
-  rest-length = omega (arith, rest-of b run other (w .held) (w .clean), w .start)
-
   pub shown-length : length (take (b .len .0) (shown (b .phase) run other)) ≡ b .len .0
-  shown-length = ap (λ (a : Account ℕ). length (a .rest)) (sym (account-whole w)) ∙ rest-length
+  shown-length = ap (λ (a : Account ℕ). length (a .rest)) (sym (account-whole w)) ∙ whole-rest w
 
   shown-fits : b .len .0 ≤ length (shown (b .phase) run other)
   shown-fits = omega (arith, shown-length, length-take (b .len .0) (shown (b .phase) run other))
@@ -112,7 +109,7 @@ module _ {b : Buffer} {run other : List ℕ} (w : WholeInput b run other) where
     in-reversed v =
         in-acts (rearranged lr lo v)
         (run-accepted (accountOf b run other) (not-not-whole w)
-        ∙ ap (λ (l : List (Glyph ℕ)). accepted (withRest l (accountOf b run other))) (sym (turned-all (b .len .0) ((accountOf b run other) .rest) (rest-length w)))) er
+        ∙ ap (λ (l : List (Glyph ℕ)). accepted (withRest l (accountOf b run other))) (sym (turned-all (b .len .0) ((accountOf b run other) .rest) (whole-rest w)))) er
 
     pub in-regrouped : Rearranges (λ l. regrouped (sizes sameCluster (infos l)) l) b run other run′ other′ → MeetsIn (λ capacity a. reverseClusters a) b run other r run′ other′
     in-regrouped v = in-acts (rearranged lr lo v) (clusters-accepted (accountOf b run other) (not-not-whole w)) er

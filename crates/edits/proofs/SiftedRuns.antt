@@ -3,17 +3,16 @@ use mathlib.Core.{Path._≡_, Path.refl, Path.sym, Path.ap, Path._∙_, Path.sub
 use Prim.Native.Nat.{ℕ, suc, _+_, _-_, _≤_, _<_}
 use native.Mathlib.Omega.{arith}
 use borrow.Author.Tests.{le-ltb, lt-ltb}
-use lib.{Dec.ltb, ListN.length, ListN.take, Seq.length-take-le}
+use lib.{Dec.ltb, ListN.length, ListN.take}
 use Rattle.records.specs.{Phase, Plain, Output, Positions, Spoiled, WrongPhase, BadOperand, Done, No, Ranges.is, View.glyphs, View.placements, View.wordsFrom}
 use Rattle.lists.specs.declared.{Buffer.Buffer, Reply.Reply}
 use Rattle.lists.specs.{Account.Account, Account.outputPhase, Account.positionsPhase, Account.spoiledPhase, Account.withGone, Contract.MeetsIn, Results.refused, Results.accepted, Results.refuse_when_else_, State.shown, State.stateOf, State.accountOf, State.Held, States.reply, States.atPlaces, States.withLimitsOf, States.openedBuffer}
 use Rattle.lists.proofs.{Accounts.held-lengths, Calls.in-refused}
 use Rattle.edits.specs.{Acts.Acts, Deleting.deletedEach, Deleting.keptRun, Deleting.deleteGlyphsInplace, Underway.pairing, Underway.underway, Underway.sifted, Underway.Siftable, Underway.Sifts, WholeRun.notWhole, Wholes.WholeInput}
-use Rattle.edits.proofs.Acting.{output}
+use Rattle.lists.proofs.Outputs.{output}
 use Rattle.edits.proofs.Holding.{same-account}
-use Rattle.edits.proofs.Pairings.{length-pairing}
 use Rattle.edits.proofs.MergeCalls.{in-acts}
-use Rattle.edits.proofs.WholeInputs.{not-not-whole, whole-gone, account-whole}
+use Rattle.edits.proofs.WholeInputs.{not-not-whole, whole-gone, account-whole, whole-rest}
 use Rattle.edits.proofs.Siftings.{phaseOf, level-is, wants-is, len-is, still-siftable}
 
 -- ---- all of them: what is left to do from s comes to what there was to do from b
@@ -120,17 +119,12 @@ module _ {b : Buffer} {run other : List ℕ} (w : WholeInput b run other) where
       let s : pairing (positionsPhase (b .phase)) (glyphs run) (placements other) ≡ shown (b .phase) run other = shown-known (b .phase) run other (w .plain) (w .clean) in
       same-account refl refl (ap (take (b .len .0)) s) (λ x. record { phase = p x; gone = sym (whole-gone w) x; limits = b .limits; level = b .level; wants = b .wants }) ∙ sym (account-whole w)
 
-  rest-many : length ((accountOf b run other) .rest) ≡ b .len .0
-  rest-many =
-      let many : length (shown (b .phase) run other) ≡ length (glyphs run) = ap length (sym (shown-known (b .phase) run other (w .plain) (w .clean))) ∙ length-pairing (positionsPhase (b .phase)) (glyphs run) (placements other) in
-      ap (λ (a : Account ℕ). length (a .rest)) (account-whole w) ∙ length-take-le (b .len .0) (shown (b .phase) run other) (omega (arith, many, w .held .len-in, w .held .all-in))
-
   module _ (slot mask value : ℕ) {q d : Buffer} {run′ other′ : List ℕ} {t : Bool} (et : t ≡ positionsPhase (b .phase)) (eq : q ≡ openedBuffer b) (u : Sifts (deletedEach slot mask value (q .len .0 - q .idx .0)) t q run other d run′ other′)
       (lr : length run′ ≡ length run) (lo : length other′ ≡ length other) where
     sifted-is : underway (positionsPhase (b .phase)) d run′ other′ ≡ deletedEach slot mask value (length ((accountOf b run other) .rest)) (accountOf b run other)
     unfolding openedBuffer
     sifted-is =
-        let n : q .len .0 - q .idx .0 ≡ length ((accountOf b run other) .rest) = ap (λ (x : Buffer). x .len .0 - x .idx .0) eq ∙ sym (rest-many ∙ omega arith) in
+        let n : q .len .0 - q .idx .0 ≡ length ((accountOf b run other) .rest) = ap (λ (x : Buffer). x .len .0 - x .idx .0) eq ∙ sym (whole-rest w ∙ omega arith) in
         ap (λ (x : Bool). underway x d run′ other′) (sym et)
         ∙ (u .is
         ∙ ((λ x. deletedEach slot mask value (n x) (underway (et x) (eq x) run other)) ∙ ap (deletedEach slot mask value (length ((accountOf b run other) .rest))) opened-is))

@@ -10,9 +10,10 @@ use Rattle.lists.specs.declared.{Buffer.Buffer}
 use Rattle.lists.specs.{Account.Account, Account.outputPhase, Account.inPhase, Account.withGone, Copied.copied, State.accountOf, State.Held, States.atPlaces, States.withLimitsOf}
 use Rattle.lists.proofs.{Accounts.held-lengths, Copying.copied-none, Copying.copied-more, Copying.take-copied, Copying.drop-copied, Copying.take-range, Copying.range-same}
 use Rattle.edits.specs.{Acts.Acts, Deletes.Deletable, Deleting.current, Deleting.deleted, Deleting.kept, Underway.pairing, Underway.underway, Underway.sifted, Underway.Siftable, Underway.Sifts}
-use Rattle.edits.proofs.Acting.{output, output-account}
+use Rattle.lists.proofs.Outputs.{output, output-account}
+use Rattle.records.proofs.Pairs.{key-alone}
 use Rattle.edits.proofs.Holding.{same-account}
-use Rattle.edits.proofs.Pairings.{pairing-take, pairing-slice, pairing-first, pairing-set, length-pairing, key-alone, beside, deleted-beside}
+use Rattle.edits.proofs.Pairings.{pairing-take, pairing-slice, pairing-first, pairing-set, length-pairing, beside, deleted-beside}
 
 -- ---- one element in the place of another, at or before it
 module _ {A : Type 0} (z : A) (l : List A) (i k : ℕ) (hi : i < length l) (o : k ≤ i) where

@@ -1,17 +1,17 @@
 -- The account of a buffer whose *rest* is the run, and what a call on it leaves.
-use mathlib.Core.{Path._≡_, Path.refl, Path.sym, Path.ap, Path._∙_, Path.subst, Bool.Bool, Bool.true, Bool.false, Bool.cond, Bool._||_, Bool.false≢true, List.List, List.[]}
-use Prim.Native.Nat.{ℕ, _-_, _≤_, _<_}
+use mathlib.Core.{Path._≡_, Path.refl, Path.sym, Path.ap, Path._∙_, Bool.Bool, Bool.true, Bool.false, Bool._||_, List.List, List.[]}
+use Prim.Native.Nat.{ℕ, _-_, _≤_}
 use native.Mathlib.Omega.{arith}
 use borrow.Author.Tests.{ltb-false}
-use lib.{Dec.ltb, ListN.length, ListN.take, ListN.drop, Seq.slice}
-use Rattle.records.specs.{Phase, Plain, Output, Positions, Spoiled, WrongPhase, Done, No, Counters.capacityOf, Glyphs.Glyph, View.glyphs, View.placements, View.wordsFrom}
+use lib.{Dec.ltb, ListN.length, ListN.take, ListN.drop}
+use Rattle.records.specs.{WrongPhase, No, Counters.capacityOf, Glyphs.Glyph, View.glyphs, View.placements}
 use Rattle.records.proofs.View.{beyond-glyphs, beyond-placements, whole-same}
 use Rattle.lists.specs.declared.{Buffer.Buffer, Reply.Reply}
-use Rattle.lists.specs.{Account.Account, Account.outputPhase, Account.spoiledPhase, Account.hasOutput, Account.isSpoiled, Account.idx, Account.withRest, Contract.MeetsIn, Results.Result, Results.refused, Results.accepted, State.shown, State.goneOf, State.stateOf, State.accountOf, State.Held, States.reply}
-use Rattle.lists.proofs.{Accounts.output-of, Accounts.spoiled-of, Accounts.idx-of, Accounts.held-lengths, Calls.in-refused, Calls.in-accepted}
+use Rattle.lists.specs.{Account.Account, Account.outputPhase, Account.spoiledPhase, Account.idx, Account.withRest, Contract.MeetsIn, Results.Result, Results.refused, State.shown, State.goneOf, State.stateOf, State.accountOf, State.Held, States.reply}
+use Rattle.lists.proofs.{Outputs.gone-without, Accounts.output-of, Accounts.spoiled-of, Accounts.idx-of, Accounts.rest-of, Accounts.held-lengths, Calls.in-refused}
 use Rattle.edits.specs.{Acts.Acts, WholeRun.notWhole, Wholes.WholeInput}
 use Rattle.edits.proofs.Holding.{behind-further}
-use Rattle.edits.proofs.MergeCalls.{goneIn, neither-left, neither-right}
+use Rattle.edits.proofs.MergeCalls.{neither-left, neither-right}
 
 -- ---- the test
 abbrev pub wholeTest : Buffer → Bool
@@ -52,14 +52,10 @@ module _ {b : Buffer} {run other : List ℕ} (w : WholeInput b run other) where
   not-not-whole = whole-test (w .held) ∙ rw (w .plain, w .clean, w .start)
 
   pub whole-gone : goneOf b ≡ 0
-  unfolding goneOf
-  whole-gone = by-phase (b .phase) (w .plain) (w .clean)
-    where
-      by-phase : (p : Phase) → outputPhase p ≡ false → spoiledPhase p ≡ false → goneIn p (b .idx .0) (b .len .0) ≡ 0
-      by-phase Plain o s = refl
-      by-phase Output o s = absurd (false≢true (sym o))
-      by-phase Positions o s = refl
-      by-phase Spoiled o s = absurd (false≢true (sym s))
+  whole-gone = gone-without b (w .plain) (w .clean)
+
+  pub whole-rest : length ((accountOf b run other) .rest) ≡ b .len .0
+  whole-rest = omega (arith, rest-of b run other (w .held) (w .clean), w .start)
 
   pub account-whole : accountOf b run other ≡ record { done = []; passed = []; rest = take (b .len .0) (shown (b .phase) run other); state = stateOf b }
   unfolding accountOf goneOf shown stateOf

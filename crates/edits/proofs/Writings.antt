@@ -6,42 +6,24 @@ use borrow.Author.Tests.{le-ltb, lt-ltb, eq-eqb, ne-eqb}
 use lib.{Dec.eqb, Dec.ltb, ListN.length, ListN.take, ListN.getD, Seq.slice, Seq.slice-cons, Seq.slice-empty, Seq.take-suc}
 use Rattle.records.specs.{Phase, WrongPhase, OutOfRange, OverCapacity, Done, No, Limits, Counters.capacityOf, Counters.failed, Counters.grown, Glyphs.Glyph, Glyphs.Info, Glyphs.blank, Ranges.copies, Ranges.infos, View.glyphs, View.seen, View.zeroGlyph, View.wordsFrom}
 use Rattle.records.specs.declared.{Glyph.Glyph as Words}
-use Rattle.records.proofs.{View.length-glyphs, View.glyphs-same, View.seen-number, Renaming.append-map}
+use Rattle.records.proofs.{View.length-glyphs, View.seen-number, Renaming.append-map}
 use Rattle.lists.specs.declared.{Buffer.Buffer, Reply.Reply, Room.the-variants.Fits, Room.the-variants.GivesUp, Room.the-variants.Over}
 use Rattle.lists.specs.{Account.Account, Account.outputPhase, Account.withGone, Account.hasOutput, Account.outLen, Account.failing, Account.sized, Contract.MeetsIn, Cursor.dropping, Moving.SyncOutput, Results.refused, Results.accepted, Results.refuse_when_else_, Results.needing, State.accountOf, State.Held, State.roomFor, States.reply, States.withLimitsOf}
-use Rattle.lists.proofs.{Accounts.output-clean, Accounts.output-of, Accounts.limits-of, Accounts.limited-of, Accounts.out-of, Accounts.rest-of, Accounts.held-lengths, Accounts.needing-fits, Accounts.needing-gives-up, Accounts.needing-over, Accounts.fits-within, Calls.in-refused, Calls.in-accepted, Calls.in-call}
+use Rattle.lists.proofs.{Accounts.output-clean, Accounts.output-of, Accounts.limits-of, Accounts.out-of, Accounts.rest-of, Accounts.held-lengths, Accounts.needing-fits, Accounts.needing-gives-up, Accounts.needing-over, Accounts.fits-within, Calls.in-refused, Calls.in-accepted, Calls.in-call}
 use Rattle.edits.specs.{Acts.Acts, Acts.Roomy, Acts.Writable, Acts.Parted, Acts.replacing, Acts.writesOne, Writing.written, Writing.model, Writing.writing, Writing.copyGlyph, Writing.outputGlyph, Writing.outputInfo}
-use Rattle.edits.proofs.Acting.{shown-output}
+use Rattle.lists.proofs.Inner.{limits-side, failing-of, sized-of, held-limits, held-failed}
+use Rattle.lists.proofs.Accounts.{out-fits}
+use Rattle.lists.proofs.Outputs.{output, shown-output}
 
 -- ---- other limits
 module _ (b : Buffer) (run other : List ℕ) where
-  pub limits-side : (l : Limits) → (withLimitsOf l b) .swapped ≡ b .swapped
-  unfolding withLimitsOf
-  limits-side l = refl
-
-  pub failing-of : accountOf (withLimitsOf (failed (b .limits)) b) run other ≡ failing (accountOf b run other)
-  unfolding failing
-  failing-of = limited-of b run other failed
-
-  pub sized-of : (n : ℕ) → accountOf (withLimitsOf (grown n (b .limits)) b) run other ≡ sized n (accountOf b run other)
-  unfolding sized
-  sized-of n = limited-of b run other (grown n)
-
   module _ (v : Held b run other) where
-    held-limits : (l : Limits) → b .limits .allocated ≤ l .allocated → l .allocated ≤ length (glyphs run) → Held (withLimitsOf l b) run other
-    unfolding withLimitsOf
-    held-limits l p q = record { idx-in = v .idx-in; len-in = omega arith; out-in = omega arith; all-in = q; most = v .most; same = v .same; whole = v .whole; behind = v .behind; none = v .none }
-
-    pub held-failed : Held (withLimitsOf (failed (b .limits)) b) run other
-    unfolding failed
-    held-failed = held-limits (failed (b .limits)) (omega arith) (v .all-in)
-
     held-grown : (n : ℕ) → roomFor (capacityOf (length run)) n (b .limits) ≡ Fits → Held (withLimitsOf (grown n (b .limits)) b) run other
     unfolding grown
     held-grown n h =
         let e : length (glyphs run) ≡ capacityOf (length run) = length-glyphs run in
         let fit : n ≤ capacityOf (length run) = fits-within (capacityOf (length run)) n (b .limits) (omega (arith, v .all-in)) h in
-        held-limits (grown n (b .limits)) (omega arith) (omega (arith, v .all-in))
+        held-limits b run other v (grown n (b .limits)) (omega arith) (omega (arith, v .all-in))
 
 -- ---- a size of n glyphs more, and then x
 module _ {b : Buffer} {run other : List ℕ} (v : SyncOutput b run other) (n : ℕ) (x : Account ℕ → Account ℕ) where
@@ -60,7 +42,7 @@ module _ {b : Buffer} {run other : List ℕ} (v : SyncOutput b run other) (n : �
 
   pub writing-gives-up : {r : Reply} {l : Limits} {g : Buffer} → roomFor (capacityOf (length run)) (b .«out_len» .0 + n) (b .limits) ≡ GivesUp → l ≡ failed (b .limits) → g ≡ withLimitsOf l b → r ≡ reply g Done → MeetsIn (λ capacity a. writing capacity n (x a) a) b run other r run other
   writing-gives-up h el eg er =
-      in-accepted (withLimitsOf (failed (b .limits)) b) (limits-side b run other (failed (b .limits))) refl refl (held-failed b run other (v .held))
+      in-accepted (withLimitsOf (failed (b .limits)) b) (limits-side (failed (b .limits)) b) refl refl (held-failed b run other (v .held))
       (writing-room ∙ (needing-gives-up _ _ before _ _ (limits-room h) ∙ ap accepted (sym (failing-of b run other))))
       (er ∙ ap (λ (k : Buffer). reply k Done) (eg ∙ ap (λ (k : Limits). withLimitsOf k b) el))
 
@@ -78,7 +60,7 @@ module _ {b : Buffer} {run other : List ℕ} (v : SyncOutput b run other) where
   -- only the size is made
   pub size-done : (n : ℕ) {r : Reply} {l : Limits} {g : Buffer} → roomFor (capacityOf (length run)) (b .«out_len» .0 + n) (b .limits) ≡ Fits → l ≡ grown (b .«out_len» .0 + n) (b .limits) → g ≡ withLimitsOf l b → r ≡ reply g Done → MeetsIn (λ capacity a. writing capacity n (sized (outLen a + n) a) a) b run other r run other
   size-done n h el eg er =
-      writing-done v n (λ a. sized (outLen a + n) a) h (limits-side b run other (grown (b .«out_len» .0 + n) (b .limits))) refl refl (held-grown b run other (v .held) (b .«out_len» .0 + n) h)
+      writing-done v n (λ a. sized (outLen a + n) a) h (limits-side (grown (b .«out_len» .0 + n) (b .limits)) b) refl refl (held-grown b run other (v .held) (b .«out_len» .0 + n) h)
       (sized-of b run other (b .«out_len» .0 + n) ∙ sym (out-size (accountOf b run other) refl n))
       (er ∙ ap (λ (k : Buffer). reply k Done) (eg ∙ ap (λ (k : Limits). withLimitsOf k b) el))
 
@@ -134,7 +116,7 @@ module _ {b : Buffer} {run other : List ℕ} (v : SyncOutput b run other) (w : I
   unfolding writesOne
   one-done {r} {l} {g} {q} {f} {other₁} {run′} {other′} h el eg p lo u er =
       let eg′ : g ≡ withLimitsOf (grown (b .«out_len» .0 + 1) (b .limits)) b = eg ∙ ap (λ (k : Limits). withLimitsOf k b) el in
-      let side : f .swapped ≡ b .swapped = u .side ∙ (p .acts .side ∙ (ap (λ (k : Buffer). k .swapped) eg′ ∙ limits-side b run other (grown (b .«out_len» .0 + 1) (b .limits)))) in
+      let side : f .swapped ≡ b .swapped = u .side ∙ (p .acts .side ∙ (ap (λ (k : Buffer). k .swapped) eg′ ∙ limits-side (grown (b .«out_len» .0 + 1) (b .limits)) b)) in
       let br : wordsFrom (f .limits .allocated) run′ ≡ wordsFrom (f .limits .allocated) run = subst (λ (k : ℕ). wordsFrom k run′ ≡ wordsFrom k run) (sym (u .size)) (u .run-beyond) in
       let bo : wordsFrom (f .limits .allocated) other′ ≡ wordsFrom (f .limits .allocated) other₁ = subst (λ (k : ℕ). wordsFrom k other′ ≡ wordsFrom k other₁) (sym (u .size)) (u .other-beyond) in
       let bp : wordsFrom (f .limits .allocated) other₁ ≡ wordsFrom (f .limits .allocated) other = subst (λ (k : ℕ). wordsFrom k other₁ ≡ wordsFrom k other) (sym (u .size ∙ p .acts .size)) (p .acts .other-beyond) in
@@ -172,13 +154,8 @@ module _ {b : Buffer} {run other : List ℕ} (v : Held b run other) (o : outputP
   all-none : b .len .0 ≤ b .idx .0 → b .«out_len» .0 ≤ 0 → eqb (length ((accountOf b run other) .rest) + outLen (accountOf b run other)) 0 ≡ true
   all-none h k = eq-eqb (length ((accountOf b run other) .rest) + outLen (accountOf b run other)) 0 (omega (arith, all-length))
 
-  -- the output lies in one of the slices
-  out-fits : (s : Bool) → b .«out_len» .0 ≤ length (cond s (glyphs other) (glyphs run))
-  out-fits true = let same : length (glyphs run) ≡ length (glyphs other) = glyphs-same run other (v .same) in omega (arith, v .out-in, v .all-in)
-  out-fits false = omega (arith, v .out-in, v .all-in)
-
   pub last-room : 0 < b .«out_len» .0 → (1 ≤ b .«out_len» .0) × (b .«out_len» .0 ≤ length (glyphs run)) × (b .«out_len» .0 ≤ length (glyphs other))
-  last-room h = (omega arith, out-fits false, out-fits true)
+  last-room h = (omega arith, out-fits v false, out-fits v true)
 
   pub done-last : 0 < b .«out_len» .0
       → (accountOf b run other) .done ≡ take (b .«out_len» .0 - 1) (cond (b .«have_separate_output») (glyphs other) (glyphs run)) ++ (getD (cond (b .«have_separate_output») (glyphs other) (glyphs run)) (b .«out_len» .0 - 1) zeroGlyph ∷ [])
@@ -186,7 +163,7 @@ module _ {b : Buffer} {run other : List ℕ} (v : Held b run other) (o : outputP
   done-last h =
       let l : List (Glyph ℕ) = cond (b .«have_separate_output») (glyphs other) (glyphs run) in
       let e : b .«out_len» .0 ≡ suc (b .«out_len» .0 - 1) = omega arith in
-      let fits : b .«out_len» .0 ≤ length l = out-fits (b .«have_separate_output») in
+      let fits : b .«out_len» .0 ≤ length l = out-fits v (b .«have_separate_output») in
       ap (λ (k : ℕ). take k l) e ∙ take-suc l (b .«out_len» .0 - 1) zeroGlyph (omega arith)
 
 pub last-apart : {A : Type 0} {s : Bool} {x : A} (run other : List A) (k : ℕ) (z : A) → s ≡ true → x ≡ getD other k z → x ≡ getD (cond s other run) k z

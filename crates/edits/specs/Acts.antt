@@ -1,7 +1,6 @@
 -- What the functions below the exported edits ask for and do.
 use mathlib.Core.{Path._≡_, Bool.true, Bool.false, List.List, List.[], List._∷_}
 use Prim.Native.Nat.{ℕ, _+_, _≤_}
-use lib.{ListN.length, ListN.take}
 use Rattle.records.specs.{Glyphs.Info, Ranges.copies, View.wordsFrom}
 use Rattle.lists.specs.declared.{Buffer.Buffer}
 use Rattle.lists.specs.{Account.Account, Account.outputPhase, Account.spoiledPhase, Account.outLen, Account.sized, Results.Result, Cursor.dropping, State.accountOf, State.Held, State.goneOf}

@@ -1,5 +1,5 @@
 -- What the functions below the exported deletion ask for and do.
-use mathlib.Core.{Path._≡_, Bool.Bool, Bool.true, Bool.cond, Bool._&&_, List.List}
+use mathlib.Core.{Path._≡_, Bool.Bool, Bool.true, Bool._&&_, List.List}
 use Prim.Native.Nat.{ℕ, _<_}
 use lib.{Dec.ltb, ListN.length, ListN.getD}
 use Rattle.records.specs.{Ranges.clusters, Ranges.is, Ranges.first, Ranges.last}

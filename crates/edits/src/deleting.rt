@@ -93,7 +93,7 @@ pub fn delete_one(b: Buffer, run: &mut [u32], other: &mut [u32]) -> Buffer
     }
     let idx = b.idx.0;
     if 1 < b.len.0 - idx {
-        return drop_one(merges::merge_at(b, run, other, b.level <= 1, idx, idx + 2));
+        return drop_one(merges::merge_clusters_at(b, run, other, idx, idx + 2));
     }
     drop_one(b)
 }

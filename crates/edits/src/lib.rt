@@ -9,6 +9,7 @@ pub mod filling;
 pub mod flagging;
 pub mod flags;
 pub mod grouping;
+pub mod lent;
 pub mod marking;
 pub mod merges;
 pub mod merging;

@@ -88,6 +88,21 @@ pub fn graphemes_merge(level: u32) -> bool
     level == 3
 }
 
+// The merge of clusters that another call makes on its way.
+pub fn merge_clusters_at(
+    b: Buffer,
+    run: &mut [u32],
+    other: &mut [u32],
+    s: usize,
+    e: usize,
+) -> Buffer
+    requires { ⌜ Mergeful b s e (now run) (now other) ⌝ }
+    ensures { λ r. ⌜ (Acts (merge (clustersMerge (b .level)) (s - goneOf b) (e - goneOf b)) b (now (run .entry)) (now (other .entry)) r (now (run .exit)) (now (other .exit))) × (r ≡ withLimitsOf (r .limits) b) × ((outputPhase (b .phase) && b .«have_separate_output») ≡ false → now (other .exit) ≡ now (other .entry)) ⌝ }
+{
+    let merges = clusters_merge(b.level);
+    merge_at(b, run, other, merges, s, e)
+}
+
 // How many glyphs of the input no list shows.
 pub fn gone(b: Buffer) -> usize
     ensures { λ r. ⌜ r ≡ goneOf b ⌝ }

@@ -29,7 +29,7 @@ fn replace_merged(
     ensures { λ r. ⌜ Acts (replaced «num_in» «num_out» (now (numbers .entry))) b (now (run .entry)) (now (other .entry)) r (now (run .exit)) (now (other .exit)) ⌝ }
 {
     let idx = b.idx.0;
-    let merged = merges::merge_at(b, run, other, b.level <= 1, idx, idx + num_in);
+    let merged = merges::merge_clusters_at(b, run, other, idx, idx + num_in);
     let g = records::glyphs::get(run, idx);
     writing::write_copies(merged, run, other, g, numbers, num_in, num_out)
 }

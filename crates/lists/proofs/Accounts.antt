@@ -1,15 +1,15 @@
 -- What the account of a buffer says, as far as tests and limits go.
-use mathlib.Core.{Path._≡_, Path.refl, Path.sym, Path.ap, Path._∙_, Path.subst, Bool.Bool, Bool.true, Bool.false, Bool.cond, Bool.not, Bool._&&_, Bool._||_, Bool.and-eq-true-iff, Bool.false≢true, List.List, List.[]}
+use mathlib.Core.{Path._≡_, Path.refl, Path.sym, Path.ap, Path._∙_, Path.subst, Bool.Bool, Bool.true, Bool.false, Bool.cond, Bool._&&_, Bool._||_, Bool.and-eq-true-iff, Bool.false≢true, List.List}
 use Prim.Native.Nat.{ℕ, _+_, _-_, _≤_, _<_}
 use native.Mathlib.Decide.{decLe}
 use native.Mathlib.Omega.{arith}
-use borrow.Author.Tests.{le-leb, lt-leb, le-ltb, lt-ltb, leb-true, eqb-true, eq-eqb}
-use lib.{Dec.eqb, Dec.leb, Dec.ltb, ListN.length, ListN.take, ListN.length-take, Seq.slice, Seq.length-slice, Seq.length-take-le}
-use Rattle.records.specs.{Phase, Plain, Output, Positions, Spoiled, OverCapacity, Limits, Counters.capacityOf, Counters.rightlyLent, Glyphs.Glyph, View.glyphs, View.placements, View.paired, View.Whole}
-use Rattle.records.proofs.View.{length-glyphs, glyphs-same, length-paired, lent-same, lent-whole, lent-most, whole-same}
+use borrow.Author.Tests.{le-leb, lt-leb, lt-ltb, leb-true, eqb-true, eq-eqb}
+use lib.{Dec.eqb, Dec.leb, Dec.ltb, ListN.length, ListN.take, Seq.length-slice, Seq.length-take-le, Seq.take-nil, Seq.drop-nil}
+use Rattle.records.specs.{Phase, Plain, Output, Positions, Spoiled, OverCapacity, Limits, Counters.capacityOf, Counters.rightlyLent, View.glyphs, View.placements}
+use Rattle.records.proofs.View.{length-glyphs, glyphs-same, placements-glyphs, length-paired, lent-same, lent-whole, lent-most, whole-same}
 use Rattle.lists.specs.declared.{Buffer.Buffer, Room.Room, Room.the-variants.Fits, Room.the-variants.GivesUp, Room.the-variants.Over}
 use Rattle.lists.specs.Account.{Account, outputPhase, positionsPhase, spoiledPhase, hasOutput, hasPositions, isSpoiled, len, idx, outLen, limiting, withLimits}
-use Rattle.lists.specs.State.{shown, goneOf, stateOf, accountOf, account, inOrder, sound, Held, roomFor}
+use Rattle.lists.specs.State.{shown, goneOf, stateOf, accountOf, inOrder, sound, Held, roomFor}
 use Rattle.lists.specs.Results.{Result, refused, needing}
 use Rattle.lists.specs.States.{withLimitsOf}
 
@@ -45,6 +45,12 @@ output-clean Output h = refl
 output-clean Positions h = refl
 output-clean Spoiled h = absurd (false≢true h)
 
+pub spoiled-is : (p : Phase) → spoiledPhase p ≡ true → p ≡ Spoiled
+spoiled-is Plain h = absurd (false≢true h)
+spoiled-is Output h = absurd (false≢true h)
+spoiled-is Positions h = absurd (false≢true h)
+spoiled-is Spoiled h = refl
+
 -- a buffer that is not spoiled shows the whole of its run
 pub length-shown : (p : Phase) (run other : List ℕ) → spoiledPhase p ≡ false → length (shown p run other) ≡ length (glyphs run)
 unfolding shown
@@ -52,6 +58,19 @@ length-shown Plain run other h = refl
 length-shown Output run other h = refl
 length-shown Positions run other h = length-paired (glyphs run) (placements other)
 length-shown Spoiled run other h = absurd (false≢true (sym h))
+
+-- how much no list shows, by the phase
+pub gone-by : (b : Buffer) (p : Phase) → b .phase ≡ p → goneOf b ≡ elim p as (λ x. ℕ) [ Plain ↦ 0 | Output ↦ b .idx .0 | Positions ↦ 0 | Spoiled ↦ b .len .0 ]
+unfolding goneOf
+gone-by b p e = ap (λ (q : Phase). elim q as (λ x. ℕ) [ Plain ↦ 0 | Output ↦ b .idx .0 | Positions ↦ 0 | Spoiled ↦ b .len .0 ]) e
+
+-- a spoiled buffer keeps its length and shows no list
+pub gone-spoiled : (b : Buffer) → spoiledPhase (b .phase) ≡ true → goneOf b ≡ b .len .0
+gone-spoiled b h = gone-by b Spoiled (spoiled-is (b .phase) h)
+
+pub input-spoiled : (b : Buffer) (run other : List ℕ) → spoiledPhase (b .phase) ≡ true → length ((accountOf b run other) .passed) + length ((accountOf b run other) .rest) ≡ 0
+unfolding accountOf shown
+input-spoiled b run other h = simp (spoiled-is (b .phase) h, drop-nil, take-nil)
 
 module _ (b : Buffer) (run other : List ℕ) where
   pub output-of : hasOutput (accountOf b run other) ≡ outputPhase (b .phase)
@@ -101,7 +120,7 @@ module _ (b : Buffer) (run other : List ℕ) where
       unfolding accountOf
       rest-of = let e : length (shown (b .phase) run other) ≡ length (glyphs run) = length-shown (b .phase) run other h in length-slice (b .idx .0) (b .len .0) (shown (b .phase) run other) (omega arith)
 
-      gone-in : goneOf b ≤ b .idx .0
+      pub gone-in : goneOf b ≤ b .idx .0
       unfolding goneOf
       gone-in = by-phase (b .phase) h
         where
@@ -111,17 +130,35 @@ module _ (b : Buffer) (run other : List ℕ) where
           by-phase Positions k = omega arith
           by-phase Spoiled k = absurd (false≢true (sym k))
 
-      passed-length : length ((accountOf b run other) .passed) ≡ b .idx .0 - goneOf b
+      pub passed-of : length ((accountOf b run other) .passed) ≡ b .idx .0 - goneOf b
       unfolding accountOf
-      passed-length = let e : length (shown (b .phase) run other) ≡ length (glyphs run) = length-shown (b .phase) run other h in length-slice (goneOf b) (b .idx .0) (shown (b .phase) run other) (omega arith)
+      passed-of = let e : length (shown (b .phase) run other) ≡ length (glyphs run) = length-shown (b .phase) run other h in length-slice (goneOf b) (b .idx .0) (shown (b .phase) run other) (omega arith)
 
       pub idx-of : idx (accountOf b run other) ≡ b .idx .0
       unfolding idx
-      idx-of = rw (spoiled-of ∙ h) (omega (arith, gone-of, passed-length, gone-in))
+      idx-of = rw (spoiled-of ∙ h) (omega (arith, gone-of, passed-of, gone-in))
 
       pub len-of : len (accountOf b run other) ≡ b .len .0
       unfolding len
-      len-of = omega (arith, gone-of, passed-length, gone-in, rest-of)
+      len-of = omega (arith, gone-of, passed-of, gone-in, rest-of)
+
+    pub places-in : b .len .0 ≤ length (placements other)
+    places-in = let e : length (glyphs run) ≡ length (glyphs other) = glyphs-same run other (v .same) in let p : length (placements other) ≡ length (glyphs other) = placements-glyphs other in omega arith
+
+    -- in every phase
+    pub gone-within : goneOf b ≤ b .len .0
+    gone-within = by-test (spoiledPhase (b .phase)) refl
+      where
+        by-test : (t : Bool) → spoiledPhase (b .phase) ≡ t → goneOf b ≤ b .len .0
+        by-test true h = omega (arith, gone-spoiled b h)
+        by-test false h = omega (arith, gone-in h)
+
+    pub input-length : length ((accountOf b run other) .passed) + length ((accountOf b run other) .rest) ≡ b .len .0 - goneOf b
+    input-length = by-test (spoiledPhase (b .phase)) refl
+      where
+        by-test : (t : Bool) → spoiledPhase (b .phase) ≡ t → length ((accountOf b run other) .passed) + length ((accountOf b run other) .rest) ≡ b .len .0 - goneOf b
+        by-test true h = omega (arith, gone-spoiled b h, input-spoiled b run other h)
+        by-test false h = omega (arith, passed-of h, rest-of h, gone-in h)
 
 -- ---- refusal 1, as the code tests it
 module _ (b : Buffer) (capacity : ℕ) where
@@ -234,6 +271,11 @@ held-turned b run other v =
       behind = v .behind;
       none = v .none;
     }
+
+-- the output lies in one of the slices
+pub out-fits : {b : Buffer} {run other : List ℕ} → Held b run other → (s : Bool) → b .«out_len» .0 ≤ length (cond s (glyphs other) (glyphs run))
+out-fits {b} {run} {other} v true = let same : length (glyphs run) ≡ length (glyphs other) = glyphs-same run other (v .same) in omega (arith, v .out-in, v .all-in)
+out-fits v false = omega (arith, v .out-in, v .all-in)
 
 -- lengths are all that it goes by
 pub held-lengths : (b : Buffer) (run other run′ other′ : List ℕ) → length run′ ≡ length run → length other′ ≡ length other → Held b run other → Held b run′ other′

@@ -1,24 +1,24 @@
 -- Laws of calls, whichever the call: refusal 1 and which slice holds the run, and what a call that was decided leaves.
 use mathlib.Core.{Path._≡_, Path.refl, Path.sym, Path.ap, Path._∙_, Bool.Bool, Bool.true, Bool.false, Bool.cond, Bool.not, Bool.false≢true, List.List}
-use Prim.Native.Nat.{ℕ, _≤_}
+use Prim.Native.Nat.{ℕ}
 use lib.{ListN.length}
-use Rattle.records.specs.{Refusal, Contradiction, Answer, Done, Value, No, Counters.capacityOf, Counters.rightlyLent, View.glyphs, View.wordsFrom}
+use Rattle.records.specs.{Refusal, Contradiction, Done, Value, No, Counters.capacityOf, Counters.rightlyLent, View.wordsFrom}
 use Rattle.records.proofs.View.{lent-same}
 use Rattle.lists.specs.declared.{Buffer.Buffer, Reply.Reply}
 use Rattle.lists.specs.Account.{Account}
-use Rattle.lists.specs.Results.{Result, refused, accepted, answered, Outcome, outcome, refuse_when_else_}
+use Rattle.lists.specs.Results.{Result, refused, accepted, answered, outcome, refuse_when_else_}
 use Rattle.lists.specs.State.{accountOf, account, sound, Held}
 use Rattle.lists.specs.States.{reply}
-use Rattle.lists.specs.Contract.{judged, isNo, Meets, exchanged, accountIn, MeetsIn, Moves}
-use Rattle.lists.proofs.Accounts.{sound-lent, sound-held, held-sound, held-turned, held-lengths}
+use Rattle.lists.specs.Contract.{judged, Meets, exchanged, accountIn, MeetsIn}
+use Rattle.lists.proofs.Accounts.{sound-lent, held-sound, held-turned, held-lengths}
 
 -- ---- which slice holds the run
 module _ (b : Buffer) (f s : List ℕ) where
-  account-first : b .swapped ≡ false → account b f s ≡ accountOf b f s
+  pub account-first : b .swapped ≡ false → account b f s ≡ accountOf b f s
   unfolding account
   account-first h = rw h
 
-  account-second : b .swapped ≡ true → account b f s ≡ accountOf b s f
+  pub account-second : b .swapped ≡ true → account b f s ≡ accountOf b s f
   unfolding account
   account-second h = rw h
 
@@ -52,6 +52,14 @@ still-lent b f s f′ s′ h ef es = rw (ef, es) (sound-lent b f s h)
 pub judged-sound : (call : ℕ → Account ℕ → Result ℕ) (b : Buffer) (f s : List ℕ) → sound b f s ≡ true → judged call b f s ≡ outcome (account b f s) (call (capacityOf (length f)) (account b f s))
 unfolding judged refuse_when_else_
 judged-sound call b f s h = rw h
+
+pub judged-unsound : (call : ℕ → Account ℕ → Result ℕ) (b : Buffer) (f s : List ℕ) → sound b f s ≡ false → judged call b f s ≡ outcome (account b f s) (refused Contradiction)
+unfolding judged refuse_when_else_
+judged-unsound call b f s h = rw h
+
+pub outcome-refused : {G : Type 0} (a : Account G) (why : Refusal) → outcome a (refused why) ≡ record { answer = No why; after = a }
+unfolding outcome
+outcome-refused a why = refl
 
 module _ {call : ℕ → Account ℕ → Result ℕ} {b : Buffer} {f s : List ℕ} {r : Reply} where
   pub shell-unsound : sound b f s ≡ false → r ≡ reply b (No Contradiction) → Meets call b f s r f s

@@ -1,13 +1,13 @@
 -- Calls on the cursor, below their shells: from what the code tests and what its moves promise to the call on the account.
-use mathlib.Core.{Path._≡_, Path.refl, Path.sym, Path.ap, Path._∙_, Path.subst, Bool.Bool, Bool.true, Bool.false, Bool.cond, Bool.not, Bool.false≢true, List.List, List.[], List._++_}
+use mathlib.Core.{Path._≡_, Path.refl, Path.sym, Path.ap, Path._∙_, Path.subst, Bool.Bool, Bool.true, Bool.false, Bool.cond, Bool.not, Bool.false≢true, List.List, List.[]}
 use Prim.Native.Nat.{ℕ, _+_, _-_, _≤_, _<_}
 use native.Mathlib.Omega.{arith}
 use borrow.Author.Tests.{le-ltb, lt-ltb}
-use lib.{Dec.ltb, ListN.length, ListN.take, ListN.drop, ListN.take-append-drop, Seq.slice, Seq.take-take, Seq.take-nil, Seq.drop-nil}
-use Rattle.records.specs.{Phase, Plain, Output, Positions, Spoiled, WrongPhase, OutOfRange, OverCapacity, Done, Value, No, Limits, Counters.capacityOf, Counters.isNegative, Counters.costs, Counters.failed, Counters.grown, Glyphs.Glyph, View.glyphs, View.wordsFrom}
+use lib.{Dec.ltb, ListN.length, ListN.take, ListN.drop, Seq.take-nil, Seq.drop-nil}
+use Rattle.records.specs.{Plain, Spoiled, WrongPhase, OutOfRange, OverCapacity, Done, Value, No, Limits, Counters.capacityOf, Counters.isNegative, Counters.costs, Counters.failed, Counters.grown, Glyphs.Glyph, View.glyphs, View.wordsFrom}
 use Rattle.records.proofs.View.{length-glyphs}
 use Rattle.lists.specs.declared.{Buffer.Buffer, Reply.Reply, Room.Room, Room.the-variants.Fits, Room.the-variants.GivesUp, Room.the-variants.Over}
-use Rattle.lists.specs.Account.{Account, inPhase, withGone, withLimits, outputPhase, spoiledPhase, hasOutput, isSpoiled, input, len, idx, outLen, limiting, paying, failing, sized}
+use Rattle.lists.specs.Account.{Account, inPhase, withGone, withLimits, outputPhase, spoiledPhase, hasOutput, isSpoiled, len, idx, outLen, limiting, paying, failing, sized}
 use Rattle.lists.specs.Results.{Result, refused, accepted, answered, outcome, refuse_when_else_, needing}
 use Rattle.lists.specs.State.{shown, goneOf, stateOf, accountOf, Held, roomFor}
 use Rattle.lists.specs.States.{reply, withLimitsOf, atPlaces, swappedBuffer, spoiledBuffer}
@@ -15,6 +15,7 @@ use Rattle.lists.specs.Contract.{isNo, exchanged, accountIn, MeetsIn, Mo
 use Rattle.lists.specs.Moving.{Forwardable, Shiftable, Returnable, SyncOutput, Syncable, NextOutput, BackOutput, BackOver}
 use Rattle.lists.specs.Cursor.{moved, back, cursorAt, growing, swapped, spoiling, positioned, clearPositions, nextGlyphs, sync, paysFor, forward, goesBack, backward, moveTo}
 use Rattle.lists.proofs.Accounts.{output-clean, output-of, spoiled-of, limits-of, out-of, rest-of, idx-of, len-of, held-lengths, needing-fits, needing-gives-up, needing-over, fits-within}
+use Rattle.lists.proofs.Simple.{cursor-of}
 use Rattle.lists.proofs.Calls.{in-refused, in-accepted, in-answered, in-call}
 
 -- ---- sizes and limits
@@ -43,21 +44,21 @@ module _ (b : Buffer) (run other : List ℕ) (v : Held b run other) where
   unfolding costs
   roomy-paid size n h = let v = roomy-grown size h in record { grows = v .grows; room = v .room; within = v .within }
 
-  held-limits : (l : Limits) → b .limits .allocated ≤ l .allocated → l .allocated ≤ length (glyphs run) → Held (withLimitsOf l b) run other
+  pub held-limits : (l : Limits) → b .limits .allocated ≤ l .allocated → l .allocated ≤ length (glyphs run) → Held (withLimitsOf l b) run other
   unfolding withLimitsOf
   held-limits l p q = record { idx-in = v .idx-in; len-in = omega arith; out-in = omega arith; all-in = q; most = v .most; same = v .same; whole = v .whole; behind = v .behind; none = v .none }
 
-  held-failed : Held (withLimitsOf (failed (b .limits)) b) run other
+  pub held-failed : Held (withLimitsOf (failed (b .limits)) b) run other
   unfolding failed
   held-failed = held-limits (failed (b .limits)) (omega arith) (v .all-in)
 
-  held-paid : (n : ℕ) → Held (withLimitsOf (costs n (b .limits)) b) run other
+  pub held-paid : (n : ℕ) → Held (withLimitsOf (costs n (b .limits)) b) run other
   unfolding costs
   held-paid n = held-limits (costs n (b .limits)) (omega arith) (v .all-in)
 
 -- the account under other limits
 module _ (b : Buffer) (run other : List ℕ) where
-  failing-of : accountOf (withLimitsOf (failed (b .limits)) b) run other ≡ failing (accountOf b run other)
+  pub failing-of : accountOf (withLimitsOf (failed (b .limits)) b) run other ≡ failing (accountOf b run other)
   unfolding accountOf stateOf goneOf withLimitsOf failing limiting withLimits
   failing-of = refl
 
@@ -65,7 +66,7 @@ module _ (b : Buffer) (run other : List ℕ) where
   unfolding accountOf stateOf goneOf withLimitsOf paying limiting withLimits
   paying-of n = refl
 
-  sized-of : (n : ℕ) → accountOf (withLimitsOf (grown n (b .limits)) b) run other ≡ sized n (accountOf b run other)
+  pub sized-of : (n : ℕ) → accountOf (withLimitsOf (grown n (b .limits)) b) run other ≡ sized n (accountOf b run other)
   unfolding accountOf stateOf goneOf withLimitsOf sized limiting withLimits
   sized-of n = refl
 
@@ -111,44 +112,12 @@ module _ {h : Account ℕ → Account ℕ} {g f : Buffer} {run other run′ othe
   pub move-answered : {call : ℕ → Account ℕ → Result ℕ} {b : Buffer} {r : Reply} → g .swapped ≡ b .swapped → (x : ℕ) → call (capacityOf (length run)) (accountOf b run other) ≡ answered x (h (accountOf g run other)) → r ≡ reply f (Value x) → MeetsIn call b run other r run′ other′
   move-answered side x e er = in-answered f (w .side ∙ side) move-run move-other (w .held) x (e ∙ ap (answered x) (sym (w .is))) er
 
-limits-side : (l : Limits) (b : Buffer) → (withLimitsOf l b) .swapped ≡ b .swapped
+pub limits-side : (l : Limits) (b : Buffer) → (withLimitsOf l b) .swapped ≡ b .swapped
 unfolding withLimitsOf
 limits-side l b = refl
 
 -- ---- the cursor without output
 module _ (b : Buffer) (run other : List ℕ) (v : Held b run other) (o : outputPhase (b .phase) ≡ false) (s : spoiledPhase (b .phase) ≡ false) where
-  gone-none : (i l k : ℕ) → goneOf (atPlaces i l k b) ≡ 0
-  unfolding goneOf atPlaces
-  gone-none i l k = by-phase (b .phase) o s
-    where
-      by-phase : (p : Phase) → outputPhase p ≡ false → spoiledPhase p ≡ false → _≡_ {A = ℕ} (elim p [ Plain ↦ 0 | Output ↦ i | Positions ↦ 0 | Spoiled ↦ l ]) 0
-      by-phase Plain p q = refl
-      by-phase Output p q = absurd (false≢true (sym p))
-      by-phase Positions p q = refl
-      by-phase Spoiled p q = absurd (false≢true (sym q))
-
-  gone-here : goneOf b ≡ 0
-  unfolding goneOf atPlaces
-  gone-here = gone-none (b .idx .0) (b .len .0) (b .«out_len» .0)
-
-  input-of : input (accountOf b run other) ≡ take (b .len .0) (shown (b .phase) run other)
-  unfolding input accountOf
-  input-of =
-      let l : List (Glyph ℕ) = shown (b .phase) run other in
-      ap (λ (n : ℕ). slice n (b .idx .0) l ++ slice (b .idx .0) (b .len .0) l) gone-here
-      ∙ (ap (λ (k : List (Glyph ℕ)). k ++ slice (b .idx .0) (b .len .0) l) (sym (take-take (b .idx .0) (b .len .0) l (v .idx-in)))
-      ∙ take-append-drop (b .idx .0) (take (b .len .0) l))
-
-  pub cursor-at : (i : ℕ) → i ≤ b .len .0 → accountOf (atPlaces i (b .len .0) (b .«out_len» .0) b) run other ≡ cursorAt i (accountOf b run other)
-  unfolding accountOf stateOf cursorAt atPlaces
-  cursor-at i h =
-      let l : List (Glyph ℕ) = shown (b .phase) run other in
-      let p : slice (goneOf (atPlaces i (b .len .0) (b .«out_len» .0) b)) i l ≡ take i (input (accountOf b run other)) =
-      ap (λ (n : ℕ). slice n i l) (gone-none i (b .len .0) (b .«out_len» .0)) ∙ (sym (take-take i (b .len .0) l h) ∙ ap (take i) (sym input-of)) in
-      let r : slice i (b .len .0) l ≡ drop i (input (accountOf b run other)) = ap (drop i) (sym input-of) in
-      let g : goneOf (atPlaces i (b .len .0) (b .«out_len» .0) b) ≡ goneOf b = gone-none i (b .len .0) (b .«out_len» .0) ∙ sym gone-here in
-      λ k. record { done = (accountOf b run other) .done; passed = p k; rest = r k; state = record { phase = b .phase; gone = g k; limits = b .limits; level = b .level; wants = b .wants } }
-
   pub held-at : (i : ℕ) → i ≤ b .len .0 → Held (atPlaces i (b .len .0) (b .«out_len» .0) b) run other
   unfolding atPlaces
   held-at i h = record { idx-in = h; len-in = v .len-in; out-in = v .out-in; all-in = v .all-in; most = v .most; same = v .same; whole = v .whole; behind = λ p q. absurd (false≢true (sym o ∙ p)); none = v .none }
@@ -225,7 +194,7 @@ module _ {b : Buffer} {run other : List ℕ} {r : Reply} (n : ℕ) (v : Held b r
         let ei : idx (accountOf b run other) + n ≡ i = ap (λ (j : ℕ). j + n) (idx-of b run other v h) in
         in-accepted c (places-side i (b .len .0) (b .«out_len» .0) b) refl refl (held-at b run other v o h i le)
         (next-passes _ n _ (spoiled-of b run other ∙ h) (enough-left b run other v h n k) (output-of b run other ∙ o)
-        ∙ ap accepted (ap (λ (j : ℕ). cursorAt j (accountOf b run other)) ei ∙ sym (cursor-at b run other v o h i le)))
+        ∙ ap accepted (ap (λ (j : ℕ). cursorAt j (accountOf b run other)) ei ∙ sym (cursor-of b run other v o h i le)))
         (er ∙ ap (λ (x : Buffer). reply x Done) eb)
 
 module _ {b : Buffer} {n : ℕ} {run other : List ℕ} (v : NextOutput b n run other) where
@@ -682,7 +651,7 @@ module _ {b : Buffer} {run other : List ℕ} {r : Reply} (i : ℕ) (v : Held b r
     pub move-in-places : {b′ : Buffer} → i ≤ b .len .0 → b′ ≡ atPlaces i (b .len .0) (b .«out_len» .0) b → r ≡ reply b′ (Value 1) → MeetsIn (λ capacity a. moveTo capacity i a) b run other r run other
     move-in-places k eb er =
         in-answered (atPlaces i (b .len .0) (b .«out_len» .0) b) (places-side i (b .len .0) (b .«out_len» .0) b) refl refl (held-at b run other v o h i k) 1
-        (move-places _ i _ (spoiled-of b run other ∙ h) (output-of b run other ∙ o) (ap (λ (l : ℕ). ltb l i) (len-of b run other v h) ∙ le-ltb _ _ k) ∙ ap (answered 1) (sym (cursor-at b run other v o h i k)))
+        (move-places _ i _ (spoiled-of b run other ∙ h) (output-of b run other ∙ o) (ap (λ (l : ℕ). ltb l i) (len-of b run other v h) ∙ le-ltb _ _ k) ∙ ap (answered 1) (sym (cursor-of b run other v o h i k)))
         (er ∙ ap (λ (x : Buffer). reply x (Value 1)) eb)
 
 module _ {b : Buffer} {run other : List ℕ} (i : ℕ) (v : SyncOutput b run other) where

@@ -2,6 +2,7 @@ pub mod Accounts
 pub mod Calls
 pub mod Chains
 pub mod Copying
+pub mod Counted
 pub mod Editing
 pub mod Examples
 pub mod Executable
@@ -9,8 +10,10 @@ pub mod Filling
 pub mod Infos
 pub mod Inner
 pub mod Insertions
+pub mod ItemLaws
 pub mod Joining
 pub mod Moving
+pub mod Outputs
 pub mod Renaming
 pub mod Runs
 pub mod Simple

@@ -3,18 +3,21 @@ use mathlib.Core.{Path._≡_, Path.refl, Path.sym, Path.ap, Path._∙_, Bool.Boo
 use Prim.Native.Nat.{ℕ, _+_, _-_, _≤_}
 use native.Mathlib.Omega.{arith}
 use lib.ListN.{length, take, drop, replicate, length-replicate}
-use lib.Seq.{slice, slice-empty, drop-drop, take-take, take-add, take-append-le, drop-append-add, drop-at, length-take-le}
-use Rattle.records.specs.{Phase, Plain, Output, Positions, Spoiled, Position, Glyphs.Glyph, Glyphs.change, Glyphs.withPosition, Glyphs.zeroPosition, View.glyphs, View.placements, View.paired, View.wordsFrom, View.Whole}
-use Rattle.records.proofs.View.{glyphs-same, whole-same, beyond-glyphs, beyond-placements, placements-glyphs, paired-zero, paired-plain}
+use lib.Seq.{slice, drop-drop, take-take, take-add, take-append-le, drop-append-add, drop-at, length-take-le}
+use Rattle.records.specs.{Phase, Plain, Output, Positions, Spoiled, Position, Glyphs.Glyph, Glyphs.change, Glyphs.withPosition, Glyphs.zeroPosition, View.glyphs, View.placements, View.paired, View.wordsFrom}
+use Rattle.records.proofs.View.{glyphs-same, whole-same, beyond-placements, paired-zero, paired-plain}
 use Rattle.records.proofs.Renaming.{take-map, drop-map}
 use Rattle.lists.specs.declared.{Buffer.Buffer}
-use Rattle.lists.specs.Account.{Account, outputPhase, spoiledPhase, withGone, inPhase}
+use Rattle.lists.specs.Account.{outputPhase, spoiledPhase, withGone, inPhase}
 use Rattle.lists.specs.Contract.{Moves}
 use Rattle.lists.specs.Copied.{copied}
 use Rattle.lists.specs.Cursor.{moved, growing, back, positioned, withoutPositions}
 use Rattle.lists.specs.Moving.{Forwardable, Shiftable, Returnable, Placeable}
 use Rattle.lists.specs.State.{shown, goneOf, stateOf, accountOf, Held}
 use Rattle.lists.specs.States.{atPlaces, positionedBuffer}
+use Rattle.lists.proofs.Accounts.{out-fits}
+use Rattle.lists.proofs.Outputs.{goneIn, gone-plain, output-cong, output-places, output-account, beyond}
+use Rattle.lists.proofs.Accounts.{places-in}
 use Rattle.lists.proofs.Copying.{take-copied, drop-copied, copied-self, drop-take, take-range, range-same}
 
 -- ---- carrying n elements, to the other list or within the run
@@ -92,54 +95,6 @@ module _ {A : Type 0} where
   kept-done : (run run′ other : List A) (s : Bool) (o : ℕ) → (s ≡ false → take o run′ ≡ take o run) → take o (cond s other run′) ≡ take o (cond s other run)
   kept-done run run′ other true o h = refl
   kept-done run run′ other false o h = h refl
-
--- ---- the account of a buffer with output
-abbrev output : Buffer → ℕ → (done rest : List (Glyph ℕ)) → Account ℕ
-output b i D R = record { done = D; passed = []; rest = R; state = record { phase = b .phase; gone = i; limits = b .limits; level = b .level; wants = b .wants } }
-
-output-cong : (b : Buffer) {i j : ℕ} {D E R S : List (Glyph ℕ)} → i ≡ j → D ≡ E → R ≡ S → output b i D R ≡ output b j E S
-output-cong b ei ed er = λ k. output b (ei k) (ed k) (er k)
-
-shown-output : (p : Phase) (run other : List ℕ) → outputPhase p ≡ true → shown p run other ≡ glyphs run
-unfolding shown
-shown-output Plain run other h = absurd (false≢true h)
-shown-output Output run other h = refl
-shown-output Positions run other h = absurd (false≢true h)
-shown-output Spoiled run other h = absurd (false≢true h)
-
--- what `goneOf` says at other places
-abbrev goneAt : Phase → ℕ → ℕ → ℕ
-goneAt p i l = elim p [ Plain ↦ 0 | Output ↦ i | Positions ↦ 0 | Spoiled ↦ l ]
-
-gone-output : (p : Phase) (i l : ℕ) → outputPhase p ≡ true → goneAt p i l ≡ i
-gone-output Plain i l h = absurd (false≢true h)
-gone-output Output i l h = refl
-gone-output Positions i l h = absurd (false≢true h)
-gone-output Spoiled i l h = absurd (false≢true h)
-
-output-places : (b : Buffer) (i l o : ℕ) (run other : List ℕ) → outputPhase (b .phase) ≡ true
-    → accountOf (atPlaces i l o b) run other ≡ output b i (take o (cond (b .«have_separate_output») (glyphs other) (glyphs run))) (slice i l (glyphs run))
-unfolding accountOf atPlaces stateOf goneOf
-output-places b i l o run other h =
-    let g : goneAt (b .phase) i l ≡ i = gone-output (b .phase) i l h in
-    let none : slice (goneAt (b .phase) i l) i (shown (b .phase) run other) ≡ [] =
-    ap (λ (k : ℕ). slice k i (shown (b .phase) run other)) g ∙ slice-empty i (shown (b .phase) run other) in
-    let rest : slice i l (shown (b .phase) run other) ≡ slice i l (glyphs run) = ap (slice i l) (shown-output (b .phase) run other h) in
-    λ k. record {
-      done = take o (cond (b .«have_separate_output») (glyphs other) (glyphs run));
-      passed = none k;
-      rest = rest k;
-      state = record { phase = b .phase; gone = g k; limits = b .limits; level = b .level; wants = b .wants };
-    }
-
-output-account : (b : Buffer) (run other : List ℕ) → outputPhase (b .phase) ≡ true
-    → accountOf b run other ≡ output b (b .idx .0) (take (b .«out_len» .0) (cond (b .«have_separate_output») (glyphs other) (glyphs run))) (slice (b .idx .0) (b .len .0) (glyphs run))
-unfolding atPlaces
-output-account b run other h = output-places b (b .idx .0) (b .len .0) (b .«out_len» .0) run other h
-
--- the words from n on, of a slice that has whole glyphs
-beyond : (n : ℕ) (ws ws′ : List ℕ) → Whole ws → length ws′ ≡ length ws → drop n (glyphs ws′) ≡ drop n (glyphs ws) → wordsFrom n ws′ ≡ wordsFrom n ws
-beyond n ws ws′ w l e = sym (beyond-glyphs n ws ws′ w (sym l) (sym e))
 
 -- ---- n glyphs of the input become output
 module _ (b : Buffer) (n : ℕ) (run other : List ℕ) (v : Forwardable b n run other) where
@@ -288,11 +243,6 @@ module _ (b : Buffer) (n : ℕ) (run other : List ℕ) (v : Returnable b n run o
     none = λ p. absurd (false≢true (sym p ∙ v .output));
   }
 
-  -- as long as the run, whichever it is
-  out-fits : (s : Bool) → b .«out_len» .0 ≤ length (cond s (glyphs other) (glyphs run))
-  out-fits true = let same : length (glyphs run) ≡ length (glyphs other) = glyphs-same run other (v .held .same) in omega arith
-  out-fits false = omega arith
-
   module _ (run′ : List ℕ) (er : glyphs run′ ≡ copied (glyphs run) (b .idx .0 - n) (cond (b .«have_separate_output») (glyphs other) (glyphs run)) (b .«out_len» .0 - n) n) where
     return-is : accountOf (atPlaces (b .idx .0 - n) (b .len .0) (b .«out_len» .0 - n) b) run′ other ≡ back n (accountOf b run other)
     unfolding back withGone
@@ -303,7 +253,7 @@ module _ (b : Buffer) (n : ℕ) (run other : List ℕ) (v : Returnable b n run o
         let s : Bool = b .«have_separate_output» in
         let g : List (Glyph ℕ) = glyphs run in
         let t : List (Glyph ℕ) = cond s (glyphs other) g in
-        let fits : o ≤ length t = out-fits s in
+        let fits : o ≤ length t = out-fits (v .held) s in
         let k : length (take o t) - n ≡ o - n = ap (λ (j : ℕ). j - n) (length-take-le o t fits) in
         let done : take (o - n) (cond s (glyphs other) (glyphs run′)) ≡ take (length (take o t) - n) (take o t) =
         kept-done g (glyphs run′) (glyphs other) s (o - n) (λ q. let h : o ≤ i = v .held .behind (v .output) q in ap (take (o - n)) er ∙ take-before g t (i - n) (o - n) n (o - n) (omega arith) (omega arith))
@@ -329,7 +279,7 @@ module _ (b : Buffer) (n : ℕ) (run other : List ℕ) (v : Returnable b n run o
         let o : ℕ = b .«out_len» .0 in
         let m : ℕ = b .limits .allocated in
         let out : List (Glyph ℕ) = cond (b .«have_separate_output») (glyphs other) (glyphs run) in
-        let fits : o ≤ length out = out-fits (b .«have_separate_output») in
+        let fits : o ≤ length out = out-fits (v .held) (b .«have_separate_output») in
         let behind-run : drop m (glyphs run′) ≡ drop m (glyphs run) =
         ap (drop m) er ∙ drop-copied (glyphs run) out (i - n) (o - n) n m (omega arith) (omega arith) (omega arith) in
         record {
@@ -363,12 +313,6 @@ shown-plain Output run other h k = absurd (false≢true (sym h))
 shown-plain Positions run other h k = paired-plain (glyphs run) (placements other)
 shown-plain Spoiled run other h k = absurd (false≢true (sym k))
 
-gone-plain : (p : Phase) (i l : ℕ) → outputPhase p ≡ false → spoiledPhase p ≡ false → goneAt p i l ≡ 0
-gone-plain Plain i l h k = refl
-gone-plain Output i l h k = absurd (false≢true (sym h))
-gone-plain Positions i l h k = refl
-gone-plain Spoiled i l h k = absurd (false≢true (sym k))
-
 drop-zero : (n m : ℕ) (ps : List Position) → n ≤ m → drop m (replicate n zeroPosition ++ drop n ps) ≡ drop m ps
 drop-zero n m ps h =
     let r : List Position = replicate n zeroPosition in
@@ -379,10 +323,7 @@ drop-zero n m ps h =
 
 module _ (b : Buffer) (run other : List ℕ) (v : Placeable b run other) where
   pub place-room : b .len .0 ≤ length (placements other)
-  place-room =
-      let same : length (glyphs run) ≡ length (glyphs other) = glyphs-same run other (v .held .same) in
-      let as-many : length (placements other) ≡ length (glyphs other) = placements-glyphs other in
-      omega arith
+  place-room = places-in b run other (v .held)
 
   place-held : Held (positionedBuffer b) run other
   unfolding positionedBuffer
@@ -414,12 +355,12 @@ module _ (b : Buffer) (run other : List ℕ) (v : Placeable b run other) where
         let l : ℕ = b .len .0 in
         let out : List (Glyph ℕ) = cond (b .«have_separate_output») (glyphs other) (glyphs run) in
         let none : b .«out_len» .0 ≡ 0 = v .held .none (v .plain) in
-        let g : goneAt (b .phase) i l ≡ 0 = gone-plain (b .phase) i l (v .plain) (v .clean) in
+        let g : goneIn (b .phase) i l ≡ 0 = gone-plain (b .phase) i l (v .plain) (v .clean) in
         let done : [] ≡ take (b .«out_len» .0) out = sym (ap (λ (k : ℕ). take k out) none) in
-        let passed : slice 0 i (shown Positions run other′) ≡ withoutPositions (slice (goneAt (b .phase) i l) i (shown (b .phase) run other)) =
+        let passed : slice 0 i (shown Positions run other′) ≡ withoutPositions (slice (goneIn (b .phase) i l) i (shown (b .phase) run other)) =
         place-range 0 i (v .held .idx-in) ∙ ap (λ (k : ℕ). withoutPositions (slice k i (shown (b .phase) run other))) (sym g) in
         let rest : slice i l (shown Positions run other′) ≡ withoutPositions (slice i l (shown (b .phase) run other)) = place-range i l (omega arith) in
-        let gone : 0 ≡ goneAt (b .phase) i l = sym g in
+        let gone : 0 ≡ goneIn (b .phase) i l = sym g in
         λ k. record {
           done = done k;
           passed = passed k;

@@ -1,20 +1,21 @@
 -- Laws of the calls on the counters and the cursor that write no word.
-use mathlib.Core.{Path._≡_, Path.refl, Path.sym, Path.ap, Path._∙_, Bool.Bool, Bool.true, Bool.false, Bool.cond, Bool.not, Bool.Bool·beq, Bool._||_, Bool.false≢true, List.List, List.[], List._++_, List.map}
+use mathlib.Core.{Path._≡_, Path.refl, Path.sym, Path.ap, Path._∙_, Bool.Bool, Bool.true, Bool.false, Bool.cond, Bool.not, Bool.Bool·beq, Bool._&&_, Bool._||_, Bool.false≢true, List.List, List.[], List._++_, List.map}
 use Prim.Native.Nat.{ℕ, _+_, _-_, _%_, _≤_, _<_}
 use native.Mathlib.Omega.{arith}
 use borrow.Author.Tests.{le-leb, lt-leb, le-ltb, lt-ltb}
 use lib.{Dec.leb, Dec.ltb, ListN.length, ListN.take, ListN.drop, ListN.take-append-drop, Seq.slice, Seq.slice-empty, Seq.take-take, Seq.drop-drop}
-use Rattle.records.specs.{Phase, Plain, Output, Positions, Spoiled, Refusal, WrongPhase, OutOfRange, BadOperand, Done, Value, Limits, Counters.freshLimits, Counters.limited, Counters.entered, Counters.left, Counters.ligSerial, Counters.withSerial, Glyphs.Glyph, Glyphs.change, Glyphs.withPosition, Glyphs.zeroPosition, View.glyphs, View.placements}
+use Rattle.records.specs.{Phase, Plain, Output, Positions, Spoiled, Refusal, WrongPhase, OutOfRange, BadOperand, Done, Value, Limits, Counters.capacityOf, Counters.rightlyLent, Counters.freshLimits, Counters.limited, Counters.entered, Counters.left, Counters.ligSerial, Counters.withSerial, Glyphs.Glyph, Glyphs.change, Glyphs.withPosition, Glyphs.zeroPosition, View.glyphs, View.placements}
 use Rattle.records.proofs.View.{glyphs-plain, paired-plain}
 use Rattle.records.proofs.Renaming.{take-map}
 use Rattle.lists.specs.declared.{Buffer.Buffer, Reply.Reply}
 use Rattle.lists.specs.Account.{Account, inPhase, withGone, outputPhase, spoiledPhase, hasOutput, isSpoiled, input, len, idx, freshAccount, limiting}
 use Rattle.lists.specs.Results.{Result, refused, accepted, answered, refuse_when_else_}
 use Rattle.lists.specs.Cursor.{fresh, enter, leave, allocateLigId, dropping, cursorAt, withoutPositions, opened, clearOutput, skipGlyph}
-use Rattle.lists.specs.State.{shown, goneOf, stateOf, accountOf, account, sound, Held}
+use Rattle.lists.specs.State.{shown, goneOf, stateOf, accountOf, account, inOrder, sound, Held}
 use Rattle.lists.specs.States.{withLimitsOf, atPlaces, freshBuffer, openedBuffer, swappedBuffer, reply}
 use Rattle.lists.specs.Contract.{Meets}
 use Rattle.lists.proofs.Accounts.{output-of, spoiled-of, limited-of, rest-of, idx-of, len-of, held-turned, sound-held}
+use Rattle.lists.proofs.Outputs.{gone-output, gone-without}
 use Rattle.lists.proofs.Calls.{shell-accepted, shell-answered}
 
 -- ---- a line of a call's tests
@@ -160,9 +161,17 @@ unfolding fresh
 fresh-refused level wants a h = refuse-yes BadOperand _ (ltb 3 wants) (lt-ltb 3 wants h)
 
 module _ (level wants : ℕ) where
-  fresh-account : (f s : List ℕ) → freshAccount level wants ≡ account (freshBuffer level wants) f s
+  pub fresh-account : (f s : List ℕ) → freshAccount level wants ≡ account (freshBuffer level wants) f s
   unfolding account accountOf stateOf goneOf freshBuffer freshAccount
   fresh-account f s = refl
+
+  pub fresh-sound : (f s : List ℕ) → sound (freshBuffer level wants) f s ≡ rightlyLent (length f) (length s)
+  unfolding sound inOrder freshBuffer freshLimits
+  fresh-sound f s = ap (λ (x : Bool). rightlyLent (length f) (length s) && (x && true)) (le-leb 0 (capacityOf (length f)) (omega arith)) ∙ and-yes (rightlyLent (length f) (length s))
+    where
+      and-yes : (x : Bool) → x && true ≡ x
+      and-yes true = refl
+      and-yes false = refl
 
   fresh-held : (b : Buffer) (f s : List ℕ) → Held b f s → Held (freshBuffer level wants) f s
   unfolding freshBuffer freshLimits
@@ -194,27 +203,6 @@ account-ext a a′ d p r s = λ k. record { done = d k; passed = p k; rest = r k
 
 join : (i n : ℕ) (l : List (Glyph ℕ)) → i ≤ n → slice 0 i l ++ slice i n l ≡ take n l
 join i n l h = ap (λ (k : List (Glyph ℕ)). k ++ drop i (take n l)) (sym (take-take i n l h)) ∙ take-append-drop i (take n l)
-
--- without output a list shows the whole input
-gone-without : (b : Buffer) → outputPhase (b .phase) ≡ false → spoiledPhase (b .phase) ≡ false → goneOf b ≡ 0
-unfolding goneOf
-gone-without b o p = by-phase (b .phase) o p
-  where
-    by-phase : (q : Phase) → outputPhase q ≡ false → spoiledPhase q ≡ false → _≡_ {A = ℕ} (elim q [ Plain ↦ 0 | Output ↦ b .idx .0 | Positions ↦ 0 | Spoiled ↦ b .len .0 ]) 0
-    by-phase Plain h k = refl
-    by-phase Output h k = absurd (false≢true (sym h))
-    by-phase Positions h k = refl
-    by-phase Spoiled h k = absurd (false≢true (sym k))
-
-gone-output : (b : Buffer) → outputPhase (b .phase) ≡ true → goneOf b ≡ b .idx .0
-unfolding goneOf
-gone-output b o = by-phase (b .phase) o
-  where
-    by-phase : (q : Phase) → outputPhase q ≡ true → _≡_ {A = ℕ} (elim q [ Plain ↦ 0 | Output ↦ b .idx .0 | Positions ↦ 0 | Spoiled ↦ b .len .0 ]) (b .idx .0)
-    by-phase Plain h = absurd (false≢true h)
-    by-phase Output h = refl
-    by-phase Positions h = absurd (false≢true h)
-    by-phase Spoiled h = absurd (false≢true h)
 
 -- the run's glyphs with no positions
 shown-plain : (p : Phase) (run other : List ℕ) → spoiledPhase p ≡ false → map (change (withPosition zeroPosition)) (shown p run other) ≡ glyphs run

@@ -7,6 +7,7 @@ pub mod Contract
 pub mod Copied
 pub mod Filled
 pub mod Insertion
+pub mod Items
 pub mod Moving
 pub mod Masks
 pub mod Turned

@@ -1,15 +1,19 @@
 // Lists of the shaping buffer: its state, the moves between the two lent slices, and the cursor's calls.
 use records::Answer;
 use records::DonePlace;
+use records::Glyph;
 use records::InputPlace;
 use records::Limits;
 use records::Phase;
+use records::Position;
 
 pub mod copies;
 pub mod cursor;
 pub mod fills;
 pub mod groups;
+pub mod items;
 pub mod keys;
+pub mod lent;
 pub mod masks;
 pub mod moves;
 pub mod ranges;
@@ -43,4 +47,13 @@ pub enum Room {
     Fits,
     GivesUp,
     Over,
+}
+
+// One of the things that a buffer shows: a glyph of a list, or a position.
+pub enum Item {
+    OfDone(Glyph),
+    OfPassed(Glyph),
+    OfRest(Glyph),
+    Placed(Position),
+    Nothing,
 }

@@ -1,15 +1,15 @@
 -- Laws of the view: what is said of words, and what the crates above may use of it.
-use mathlib.Core.{Path._≡_, Path.refl, Path.sym, Path.ap, Path._∙_, Bool.Bool, Bool.true, Bool.false, Bool._&&_, Bool.and-eq-true-iff, List.List, List.[], List._∷_, List._++_, List.map}
-use Prim.Native.Nat.{ℕ, zero, suc, _+_, _*_, _/_, _%_, _≤_, _<_}
+use mathlib.Core.{Path._≡_, Path.refl, Path.sym, Path.ap, Path._∙_, Bool.Bool, Bool.true, Bool._&&_, Bool.and-eq-true-iff, List.List, List.[], List._∷_, List._++_, List.map}
+use Prim.Native.Nat.{ℕ, zero, suc, _+_, _-_, _*_, _/_, _%_, _≤_, _<_}
 use native.Mathlib.Nat.{suc-add}
 use native.Mathlib.Omega.{arith}
-use lib.{ListN.length, ListN.getD, ListN.set, ListN.drop, ListN.take, ListN.replicate, ListN.length-map, ListN.length-drop, ListN.List·getD-map, Seq.set-getD, Seq.drop-nil, Seq.take-nil, Seq.length-take-le, Dec.eqb, Dec.leb, Bits.bitAnd, Bits.bitOr}
+use lib.{ListN.length, ListN.getD, ListN.set, ListN.drop, ListN.take, ListN.replicate, ListN.length-map, ListN.length-drop, ListN.List·getD-map, Seq.set-getD, Seq.drop-nil, Seq.drop-drop, Seq.take-nil, Seq.length-take-le, Dec.eqb, Dec.leb, Bits.bitAnd, Bits.bitOr}
 use borrow.Author.Tests.{eq-eqb, ne-eqb, eqb-true, leb-true}
 use Rattle.records.specs.declared.{Position.Position, Glyph.Glyph as Words}
 use Rattle.records.specs.Counters.{capacityOf, rightlyLent}
-use Rattle.records.specs.Glyphs.{Glyph, Info, change, setCluster, withMask, withCluster, withPosition, flagged, flaggedUnless, key, zeroPosition}
+use Rattle.records.specs.Glyphs.{Glyph, change, setCluster, withMask, withCluster, withPosition, flagged, flaggedUnless, key, zeroPosition}
 use Rattle.records.specs.Ranges.{clusters}
-use Rattle.records.specs.View.{fives, glyphOf, glyphs, positionOf, placements, paired, wordsFrom, Whole, seen, zeroGlyph, wordsAt, placeAt, putFive, putWords, putPlace}
+use Rattle.records.specs.View.{fives, glyphOf, glyphs, positionOf, placements, paired, wordsFrom, Whole, seen, stored, zeroGlyph, wordsAt, placeAt, putFive, putWords, putPlace}
 
 five-suc : (i : ℕ) → 5 * suc i ≡ suc (suc (suc (suc (suc (5 * i)))))
 five-suc i = omega arith
@@ -43,6 +43,15 @@ module _ (g : Words) where
   pub seen-numbered : (n : ℕ) → seen (record { glyph = n; mask = g .mask; cluster = g .cluster; var0 = g .var0; var1 = g .var1 }) ≡ record { glyph = n; info = seen g .info }
   unfolding seen glyphOf
   seen-numbered n = refl
+
+  -- a glyph in a slice is its struct, and a glyph's struct has no position
+  pub stored-seen : stored (seen g) ≡ g
+  unfolding stored seen glyphOf
+  stored-seen = refl
+
+pub seen-stored : (g : Glyph ℕ) → seen (stored g) ≡ change (withPosition zeroPosition) g
+unfolding stored seen glyphOf change withPosition
+seen-stored g = refl
 
 -- ---- five words at a time, whatever they make
 module _ {A : Type 0} (mk : ℕ → ℕ → ℕ → ℕ → ℕ → A) where
@@ -152,6 +161,13 @@ pub beyond-placements : (n : ℕ) (v w : List ℕ) → Whole v → length v ≡ 
 unfolding Whole wordsFrom placements positionOf
 beyond-placements n v w h l e =
     beyond-fives positionOf (λ p. p .«x_advance» ∷ (p .«y_advance» ∷ (p .«x_offset» ∷ (p .«y_offset» ∷ (p .var ∷ []))))) (λ a b c d e. refl) n v w h l e
+
+-- words that are the same from a place on are so from any later one
+pub beyond-more : {m n : ℕ} (v w : List ℕ) → m ≤ n → wordsFrom m v ≡ wordsFrom m w → wordsFrom n v ≡ wordsFrom n w
+unfolding wordsFrom
+beyond-more {m} {n} v w h e =
+    let k : 5 * n ≡ 5 * m + 5 * (n - m) = omega arith in
+    rw k (sym (drop-drop (5 * (n - m)) (5 * m) v) ∙ (ap (drop (5 * (n - m))) e ∙ drop-drop (5 * (n - m)) (5 * m) w))
 
 pub whole-same : (v w : List ℕ) → length v ≡ length w → Whole v → Whole w
 unfolding Whole

@@ -46,6 +46,10 @@ Whole ws = length ws % 5 ≡ 0
 unfoldable pub seen : Words → Glyph ℕ
 seen g = glyphOf (g .glyph) (g .mask) (g .cluster) (g .var0) (g .var1)
 
+-- a glyph as such a struct, its position apart
+unfoldable pub stored : Glyph ℕ → Words
+stored g = record { glyph = g .glyph; mask = g .info .mask; cluster = g .info .cluster; var0 = g .info .var0; var1 = g .info .var1 }
+
 -- what stands for a glyph past the end
 unfoldable pub zeroGlyph : Glyph ℕ
 zeroGlyph = glyphOf 0 0 4294967295 0 0

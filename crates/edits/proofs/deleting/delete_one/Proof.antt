@@ -37,14 +37,14 @@ returns-2 c = deletes (c .before .before .before .before .before .before .before
 sub-if3 : tie.Need-sub-if3
 sub-if3 c = search needs
 
-add-merge-at : tie.Need-add-merge-at
-add-merge-at c = search needs
+add-merge-clusters-at : tie.Need-add-merge-clusters-at
+add-merge-clusters-at c = search needs
 
-merge-at-requires : tie.Need-merge-at-requires
-merge-at-requires c κs = next-mergeful (c .before .before .before .before .before .before .before .before .before .before .before .before .before .pre) (c .before .before .before .if3 .taken)
+merge-clusters-at-requires : tie.Need-merge-clusters-at-requires
+merge-clusters-at-requires c κs = next-mergeful (c .before .before .before .before .before .before .before .before .before .before .before .before .pre) (c .before .before .if3 .taken)
 
 drop-one-requires-3 : tie.Need-drop-one-requires-3
-drop-one-requires-3 c κs = still-some (c .before .before .before .before .before .before .before .before .before .before .before .before .before .before .before .before .before .before .pre) (c .before .before .before .before .merge-at .ensures .0) (c .before .before .before .before .merge-at .ensures .1) (c .before .before .before .before .merge-at .kept .1 .0) (c .before .before .before .before .merge-at .kept .1 .1 .0)
+drop-one-requires-3 c κs = still-some (c .before .before .before .before .before .before .before .before .before .before .before .before .before .before .before .before .before .pre) (c .before .before .before .before .merge-clusters-at .ensures .0) (c .before .before .before .before .merge-clusters-at .ensures .1) (c .before .before .before .before .merge-clusters-at .kept .1 .0) (c .before .before .before .before .merge-clusters-at .kept .1 .1 .0)
 
 same-length-5 : tie.Need-same-length-5
 same-length-5 c = search needs
@@ -53,7 +53,7 @@ same-length-6 : tie.Need-same-length-6
 same-length-6 c = search needs
 
 returns-3 : tie.Need-returns-3
-returns-3 c = deletes (c .before .before .before .before .before .before .before .before .before .before .before .before .before .before .before .before .before .before .before .pre) (c .before .before .before .before .before .merge-at .ensures .0) (c .before .before .before .before .before .merge-at .ensures .1) (c .before .before .before .before .before .merge-at .kept .1 .0) (c .before .before .before .before .before .merge-at .kept .1 .1 .0) (λ q. c .before .before .before .before .before .merge-at .ensures .2 (not-apart (c .before .before .before .before .before .before .before .before .before .before .before .before .before .before .before .before .before .before .before .pre) q)) (merge-deletes (c .before .before .before .before .before .before .before .before .before .before .before .before .before .before .before .before .before .before .before .pre) (sym (c .before .before .before .before .before .before .before .before .before .before .before .before .before .before .cluster-survives .ensures) ∙ c .before .before .before .before .before .before .before .before .before .before .before .before .before .if1 .left) (c .before .before .before .before .before .before .before .before .before .before .before .if2 .left) (c .before .before .before .before .before .before .before .before .before .if3 .taken)) (c .drop-one3 .ensures)
+returns-3 c = deletes (c .before .before .before .before .before .before .before .before .before .before .before .before .before .before .before .before .before .before .pre) (c .before .before .before .before .before .merge-clusters-at .ensures .0) (c .before .before .before .before .before .merge-clusters-at .ensures .1) (c .before .before .before .before .before .merge-clusters-at .kept .1 .0) (c .before .before .before .before .before .merge-clusters-at .kept .1 .1 .0) (λ q. c .before .before .before .before .before .merge-clusters-at .ensures .2 (not-apart (c .before .before .before .before .before .before .before .before .before .before .before .before .before .before .before .before .before .before .pre) q)) (merge-deletes (c .before .before .before .before .before .before .before .before .before .before .before .before .before .before .before .before .before .before .pre) (sym (c .before .before .before .before .before .before .before .before .before .before .before .before .before .cluster-survives .ensures) ∙ c .before .before .before .before .before .before .before .before .before .before .before .before .if1 .left) (c .before .before .before .before .before .before .before .before .before .before .if2 .left) (c .before .before .before .before .before .before .before .before .if3 .taken)) (c .drop-one3 .ensures)
 
 drop-one-requires-4 : tie.Need-drop-one-requires-4
 drop-one-requires-4 c κs = search needs
@@ -82,8 +82,8 @@ delete-one-spec =
     same-length-4
     returns-2
     sub-if3
-    add-merge-at
-    merge-at-requires
+    add-merge-clusters-at
+    merge-clusters-at-requires
     drop-one-requires-3
     same-length-5
     same-length-6

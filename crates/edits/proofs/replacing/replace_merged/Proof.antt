@@ -3,17 +3,17 @@ use borrow.Author.Needs.{needs}
 use Rattle.edits.proofs.replacing.replace_merged.Statement.{statement}
 use Rattle.edits.proofs.replacing.replace_merged.Tie as tie
 
-add-merge-at : tie.Need-add-merge-at
-add-merge-at c = search needs
+add-merge-clusters-at : tie.Need-add-merge-clusters-at
+add-merge-clusters-at c = search needs
 
-merge-at-requires : tie.Need-merge-at-requires
-merge-at-requires c κs = inputs-mergeful (c .before .before .before .before .before .before .pre .0)
+merge-clusters-at-requires : tie.Need-merge-clusters-at-requires
+merge-clusters-at-requires c κs = inputs-mergeful (c .before .before .before .before .before .pre .0)
 
 get-requires : tie.Need-get-requires
-get-requires c κs = merged-room (c .before .before .before .before .before .before .before .before .before .before .before .before .pre .0) (c .before .before .before .before .before .merge-at .ensures .0, c .before .before .before .before .before .merge-at .ensures .1) (c .before .before .before .before .before .merge-at .kept .1 .0) (c .before .before .before .before .before .merge-at .kept .1 .1 .0) (c .before .before .before .before .before .before .before .before .before .before .before .before .pre .1)
+get-requires c κs = merged-room (c .before .before .before .before .before .before .before .before .before .before .before .pre .0) (c .before .before .before .before .before .merge-clusters-at .ensures .0, c .before .before .before .before .before .merge-clusters-at .ensures .1) (c .before .before .before .before .before .merge-clusters-at .kept .1 .0) (c .before .before .before .before .before .merge-clusters-at .kept .1 .1 .0) (c .before .before .before .before .before .before .before .before .before .before .before .pre .1)
 
 write-copies-requires : tie.Need-write-copies-requires
-write-copies-requires c κs = (merged-writable (c .before .before .before .before .before .before .before .before .before .before .before .before .before .before .before .pre .0) (c .before .before .before .before .before .before .before .before .merge-at .ensures .0, c .before .before .before .before .before .before .before .before .merge-at .ensures .1) (c .before .before .before .before .before .before .before .before .merge-at .kept .1 .0) (c .before .before .before .before .before .before .before .before .merge-at .kept .1 .1 .0), c .before .before .before .before .before .before .before .before .before .before .before .before .before .before .before .pre .2)
+write-copies-requires c κs = (merged-writable (c .before .before .before .before .before .before .before .before .before .before .before .before .before .before .pre .0) (c .before .before .before .before .before .before .before .before .merge-clusters-at .ensures .0, c .before .before .before .before .before .before .before .before .merge-clusters-at .ensures .1) (c .before .before .before .before .before .before .before .before .merge-clusters-at .kept .1 .0) (c .before .before .before .before .before .before .before .before .merge-clusters-at .kept .1 .1 .0), c .before .before .before .before .before .before .before .before .before .before .before .before .before .before .pre .2)
 
 same-length : tie.Need-same-length
 same-length c = search needs
@@ -22,14 +22,14 @@ same-length-2 : tie.Need-same-length-2
 same-length-2 c = search needs
 
 returns : tie.Need-returns
-returns c = merged-replaced (c .before .before .before .before .before .before .before .before .before .before .before .before .before .before .before .before .before .before .before .before .pre .0) (c .before .before .before .before .before .before .before .before .before .before .before .before .before .merge-at .ensures .0, c .before .before .before .before .before .before .before .before .before .before .before .before .before .merge-at .ensures .1) (c .before .before .before .before .before .before .before .before .before .before .before .before .before .merge-at .kept .1 .0) (c .before .before .before .before .before .before .before .before .before .before .before .before .before .merge-at .kept .1 .1 .0) (c .before .before .before .before .before .before .before .before .before .before .before .before .before .before .before .before .before .before .before .before .pre .1) (inputs-places (c .before .before .before .before .before .before .before .before .before .before .before .before .before .before .before .before .before .before .before .before .pre .0)) _ _ (c .before .before .before .before .before .before .before .get .ensures) (c .before .before .before .before .write-copies .ensures)
+returns c = merged-replaced (c .before .before .before .before .before .before .before .before .before .before .before .before .before .before .before .before .before .before .before .pre .0) (c .before .before .before .before .before .before .before .before .before .before .before .before .before .merge-clusters-at .ensures .0, c .before .before .before .before .before .before .before .before .before .before .before .before .before .merge-clusters-at .ensures .1) (c .before .before .before .before .before .before .before .before .before .before .before .before .before .merge-clusters-at .kept .1 .0) (c .before .before .before .before .before .before .before .before .before .before .before .before .before .merge-clusters-at .kept .1 .1 .0) (c .before .before .before .before .before .before .before .before .before .before .before .before .before .before .before .before .before .before .before .pre .1) (inputs-places (c .before .before .before .before .before .before .before .before .before .before .before .before .before .before .before .before .before .before .before .pre .0)) _ _ (c .before .before .before .before .before .before .before .get .ensures) (c .before .before .before .before .write-copies .ensures)
 
 pub replace-merged-spec : {M : Type 1} → statement M
 replace-merged-spec =
     tie.close
     (tie.spec
-    add-merge-at
-    merge-at-requires
+    add-merge-clusters-at
+    merge-clusters-at-requires
     get-requires
     write-copies-requires
     same-length
