@@ -3,11 +3,12 @@ use mathlib.Core.{Path._≡_, Path.refl, Path.ap, Path._∙_, Option.Option, Opt
 use Prim.Native.Nat.{ℕ, zero, suc, _+_, _/_, _%_, _<_}
 use native.Mathlib.Omega.{arith}
 use lib.{ListN.length, ListN.getD, ListN.take, ListN.drop}
-use Rattle.lists.specs.{Account.Account, Account.renamed, Results.Outcome, Results.outcome}
+use Rattle.records.specs.{Unreadable}
+use Rattle.lists.specs.{Account.Account, Account.renamed, Results.Outcome}
 use Rattle.commands.specs.Calls.{Call, Worded, step}
 use Rattle.commands.specs.Bytes.{Read, unreadable, got, mapped, word, words, at, Form, unknown, plain, glyphAnd, listed, forms, readForm, readUpTo, runRead, runBytes}
 use Rattle.commands.specs.Renaming.{renamedOutcome, reworded, overOperands, asItIs, renamedNumber, renamedForm, renamedUpTo, renamedBytes}
-use Rattle.commands.proofs.Renaming.{step-rename}
+use Rattle.commands.proofs.Renaming.{step-rename, refused-outcome}
 
 -- what was read, changed by g, and the bytes after it, changed by h
 turned : {A B : Type 0} → (A → B) → (List ℕ → List ℕ) → Read A → Read B
@@ -166,17 +167,25 @@ module _ (f : ℕ → ℕ) where
   upTo-length (suc n) [] = refl
   upTo-length (suc n) (byte ∷ l) = ap suc (form-length (getD forms byte unknown) (renamedUpTo f n) (upTo-length n) l)
 
-  runRead-rename : f 0 ≡ 0 → (first second : ℕ) (ws : List (Option (Worded ℕ))) (a : Account ℕ) → runRead first second (map (rewordedRead f) ws) (renamed f a) ≡ map (renamedOutcome f) (runRead first second ws a)
-  unfolding runRead rewordedRead renamedOutcome outcome
-  runRead-rename z first second [] a = refl
-  runRead-rename z first second (none ∷ ws) a = refl
-  runRead-rename z first second (some w ∷ ws) a =
-      rw (rw z at (step-rename f 0 first second w a)) (ap {B = List (Outcome ℕ)} (λ r. renamedOutcome f (step 0 first second w a) ∷ r) (runRead-rename z first second ws _))
+  module _ (call : Worded ℕ → Account ℕ → Outcome ℕ) (renames : (w : Worded ℕ) (a : Account ℕ) → call (reworded f w) (renamed f a) ≡ renamedOutcome f (call w a)) where
+    pub runRead-rename : (ws : List (Option (Worded ℕ))) (a : Account ℕ) → runRead call (map (rewordedRead f) ws) (renamed f a) ≡ map (renamedOutcome f) (runRead call ws a)
+    unfolding runRead rewordedRead renamedOutcome
+    runRead-rename [] a = refl
+    runRead-rename (none ∷ ws) a = ap (λ (o : Outcome ℕ). o ∷ []) (refused-outcome f a Unreadable)
+    runRead-rename (some w ∷ ws) a = rw (renames w a) (ap {B = List (Outcome ℕ)} (λ r. renamedOutcome f (call w a) ∷ r) (runRead-rename ws _))
 
-  -- every string of bytes
+    -- every string of bytes
+    pub string-rename : (bytes : List ℕ) (a : Account ℕ) → runRead call (readUpTo (length (renamedBytes f bytes)) (renamedBytes f bytes)) (renamed f a) ≡ map (renamedOutcome f) (runRead call (readUpTo (length bytes) bytes) a)
+    unfolding renamedBytes
+    string-rename bytes a = rw (upTo-length (length bytes) bytes, upTo-rename f (length bytes) bytes) (runRead-rename (readUpTo (length bytes) bytes) a)
+
   pub runBytes-rename : f 0 ≡ 0 → (first second : ℕ) (bytes : List ℕ) (a : Account ℕ) → runBytes first second (renamedBytes f bytes) (renamed f a) ≡ map (renamedOutcome f) (runBytes first second bytes a)
-  unfolding runBytes renamedBytes
-  runBytes-rename z first second bytes a = rw (upTo-length (length bytes) bytes, upTo-rename f (length bytes) bytes) (runRead-rename z first second (readUpTo (length bytes) bytes) a)
+  unfolding runBytes
+  runBytes-rename z first second bytes a = string-rename (step 0 first second) (λ w a. rw z at (step-rename f 0 first second w a)) bytes a
+
+  pub renamed-length : (bytes : List ℕ) → length (renamedBytes f bytes) ≡ length bytes
+  unfolding renamedBytes
+  renamed-length bytes = upTo-length (length bytes) bytes
 
 -- ---- where f takes words to words, a renamed string of bytes is one of bytes
 abbrev pub AreBytes : List ℕ → Type 0

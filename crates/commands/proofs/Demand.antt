@@ -1,13 +1,14 @@
 -- Demand 3, and the course regulations: theorems about lists of calls, and about strings of bytes.
 use mathlib.Core.{Path._≡_, Path.refl, Path.ap, Path.sym, Path._∙_, List.List, List.[], List._∷_, List.map}
 use Prim.Native.Nat.{ℕ}
+use lib.{ListN.length}
 use Rattle.records.specs.Glyphs.{Glyph, rename}
 use Rattle.records.proofs.Renaming.{words-rename, numbers-rename}
 use Rattle.lists.specs.{Account.Account, Account.State, Account.freshAccount, Account.renamed, Results.Outcome}
 use Rattle.lists.proofs.Renaming.{done-rename, passed-rename, rest-rename, state-rename, idx-rename, len-rename, outLen-rename, positions-rename, fresh-renamed, renamed-twice}
-use Rattle.commands.specs.{Calls.Worded, Calls.run, Bytes.runBytes, Renaming.renamedOutcome, Renaming.reworded, Renaming.renamedBytes}
-use Rattle.commands.specs.Demand.{SameList, SameAccount, SameOutcomes, Renamed, forget}
-use Rattle.commands.proofs.{Renaming.run-rename, Bytes.runBytes-rename}
+use Rattle.commands.specs.{Calls.Worded, Calls.step, Calls.run, Bytes.readUpTo, Bytes.runRead, Bytes.runBytes, Renaming.renamedOutcome, Renaming.reworded, Renaming.renamedBytes}
+use Rattle.commands.specs.Demand.{SameList, SameAccount, SameOutcome, SameOutcomes, Renamed, forget}
+use Rattle.commands.proofs.{Renaming.step-rename, Renaming.run-rename, Bytes.string-rename, Bytes.runBytes-rename}
 
 -- ---- what renaming leaves as it was
 module _ {G H : Type 0} (f : G → H) where
@@ -20,7 +21,7 @@ module _ {G H : Type 0} (f : G → H) where
     var1s = words-rename f (λ i. i .var1) l;
   }
 
-  same-account : (a : Account G) → SameAccount f a (renamed f a)
+  pub same-account : (a : Account G) → SameAccount f a (renamed f a)
   same-account a = record {
     phase = same (λ s. s .phase);
     same-idx = idx-rename f a;
@@ -42,10 +43,13 @@ module _ {G H : Type 0} (f : G → H) where
       same : {A : Type 0} (h : State → A) → h ((renamed f a) .state) ≡ h (a .state)
       same h = ap h (state-rename f a)
 
-  same-outcomes : (os : List (Outcome G)) → SameOutcomes f os (map (renamedOutcome f) os)
+  pub same-outcome : (o : Outcome G) → SameOutcome f o (renamedOutcome f o)
   unfolding renamedOutcome
+  same-outcome o = record { answer = refl; after = same-account (o .after) }
+
+  pub same-outcomes : (os : List (Outcome G)) → SameOutcomes f os (map (renamedOutcome f) os)
   same-outcomes [] = tt
-  same-outcomes (o ∷ os) = (record { answer = refl; after = same-account (o .after) }, same-outcomes os)
+  same-outcomes (o ∷ os) = (same-outcome o, same-outcomes os)
 
   -- from any account, and for any types of glyph numbers: the run of the reworded list, from the account renamed
   pub demand-3-from : (z : G) (first second : ℕ) (ws : List (Worded G)) (a : Account G)
@@ -77,17 +81,25 @@ two-wordings first second ws others a e =
     sym (run-rename forget 0 first second ws a)
     ∙ (ap (λ w. run tt first second w (renamed forget a)) e ∙ run-rename forget 0 first second others a)
 
-outcomes-twice : {G H K : Type 0} (f : G → H) (g : H → K) (os : List (Outcome G)) → map (renamedOutcome g) (map (renamedOutcome f) os) ≡ map (renamedOutcome (λ x. g (f x))) os
+pub outcomes-twice : {G H K : Type 0} (f : G → H) (g : H → K) (os : List (Outcome G)) → map (renamedOutcome g) (map (renamedOutcome f) os) ≡ map (renamedOutcome (λ x. g (f x))) os
 unfolding renamedOutcome
 outcomes-twice f g [] = refl
 outcomes-twice f g (o ∷ os) = simp (renamed-twice f g, outcomes-twice f g os)
 
--- the same of any two strings of bytes, which differ in glyph numbers only where both are the same string once each complete number is made 0
+-- two strings of bytes "differ in glyph numbers only" where both are the same string once each complete number is made 0
+module _ (call : Worded ℕ → Account ℕ → Outcome ℕ) (renames : (w : Worded ℕ) (a : Account ℕ) → call (reworded (λ n. 0) w) (renamed (λ n. 0) a) ≡ renamedOutcome (λ n. 0) (call w a)) where
+  pub strings-alike : (bytes others : List ℕ) (a : Account ℕ)
+      → renamedBytes (λ w. 0) bytes ≡ renamedBytes (λ w. 0) others
+      → map (renamedOutcome forget) (runRead call (readUpTo (length bytes) bytes) a) ≡ map (renamedOutcome forget) (runRead call (readUpTo (length others) others) a)
+  strings-alike bytes others a e =
+      blotted bytes ∙ (ap (λ w. map (renamedOutcome forget) (runRead call (readUpTo (length w) w) (renamed (λ n. 0) a))) e ∙ sym (blotted others))
+    where
+      blotted : (w : List ℕ) → map (renamedOutcome forget) (runRead call (readUpTo (length w) w) a) ≡ map (renamedOutcome forget) (runRead call (readUpTo (length (renamedBytes (λ n. 0) w)) (renamedBytes (λ n. 0) w)) (renamed (λ n. 0) a))
+      blotted w = rw (string-rename (λ n. 0) call renames w a) (sym (outcomes-twice (λ n. 0) forget (runRead call (readUpTo (length w) w) a)))
+
+-- any two such strings leave the same record after every command, the glyph column apart
 pub two-wordings-bytes : (first second : ℕ) (bytes others : List ℕ) (a : Account ℕ)
     → renamedBytes (λ w. 0) bytes ≡ renamedBytes (λ w. 0) others
     → map (renamedOutcome forget) (runBytes first second bytes a) ≡ map (renamedOutcome forget) (runBytes first second others a)
-two-wordings-bytes first second bytes others a e =
-    blotted bytes ∙ (ap (λ w. map (renamedOutcome forget) (runBytes first second w (renamed (λ n. 0) a))) e ∙ sym (blotted others))
-  where
-    blotted : (w : List ℕ) → map (renamedOutcome forget) (runBytes first second w a) ≡ map (renamedOutcome forget) (runBytes first second (renamedBytes (λ n. 0) w) (renamed (λ n. 0) a))
-    blotted w = rw (runBytes-rename (λ n. 0) refl first second w a) (sym (outcomes-twice (λ n. 0) forget (runBytes first second w a)))
+unfolding runBytes
+two-wordings-bytes first second bytes others a e = strings-alike (step 0 first second) (step-rename (λ n. 0) 0 first second) bytes others a e

@@ -11,3 +11,5 @@ pub mod Readings
 pub mod CallLaws
 pub mod StepLaws
 pub mod RunLaws
+pub mod Returned
+pub mod ReportLaws

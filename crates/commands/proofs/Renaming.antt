@@ -1,12 +1,23 @@
 -- Renaming a call, and a list of calls.
-use mathlib.Core.{Path._≡_, Path.refl, Path.ap, List.List, List.[], List._∷_, List.map}
+use mathlib.Core.{Path._≡_, Path.refl, Path.ap, Path._∙_, List.List, List.[], List._∷_, List.map}
 use Prim.Native.Nat.{ℕ}
 use lib.{ListN.getD, ListN.List·getD-map}
+use Rattle.records.specs.{Refusal}
 use Rattle.lists.specs.{Account.Account, Account.renamed, Results.Result, Results.refused, Results.accepted, Results.answered, Results.Outcome, Results.outcome, Results.renamedResult}
-use Rattle.lists.proofs.Renaming.{state-rename, refuse-rename, fresh-rename, enter-rename, leave-rename, allocateLigId-rename, clearOutput-rename, clearPositions-rename, nextGlyphs-rename, skipGlyph-rename, sync-rename, moveTo-rename}
+use Rattle.lists.proofs.Renaming.{state-rename, refused-rename, refuse-rename, fresh-rename, enter-rename, leave-rename, allocateLigId-rename, clearOutput-rename, clearPositions-rename, nextGlyphs-rename, skipGlyph-rename, sync-rename, moveTo-rename}
 use Rattle.edits.proofs.Renaming.{copyGlyph-rename, deleteGlyph-rename, deleteGlyphsInplace-rename, formClusters-rename, mergeDone-rename, mergeInput-rename, outbufferForm-rename, outputGlyph-rename, outputInfo-rename, place-rename, plainForm-rename, propagateFlags-rename, push-rename, replaceGlyphs-rename, resetClusters-rename, reverseClusters-rename, reverseGraphemes-rename, reverseRange-rename, reverseRun-rename, setLength-rename, setMasks-rename, sort-rename}
 use Rattle.commands.specs.Calls.{Call, Worded, perform, step, run, c00-fresh, c01-push, c02-set-length, c03-clear-output, c04-sync, c05-clear-positions, c06-place, c07-next-glyph, c08-next-glyphs, c09-skip-glyph, c0A-copy-glyph, c0B-output-glyph, c0C-output-info, c0D-replace-glyph, c0E-replace-glyphs, c0F-delete-glyph, c10-move-to, c11-merge-clusters, c12-merge-out-clusters, c13-merge-grapheme-clusters, c14-merge-out-grapheme-clusters, c15-unsafe-to-break, c16-unsafe-to-concat, c17-safe-to-insert-tatweel, c18-unsafe-to-break-from-outbuffer, c19-unsafe-to-concat-from-outbuffer, c1A-set-masks, c1B-reverse, c1C-reverse-range, c1D-reverse-clusters, c1E-reverse-graphemes, c1F-reset-clusters, c20-sort, c21-delete-glyphs-inplace, c22-form-clusters, c23-propagate-flags, c24-enter, c25-leave, c26-allocate-lig-id}
 use Rattle.commands.specs.Renaming.{renamedOutcome, reworded}
+
+module _ {G H : Type 0} (f : G → H) where
+  outcome-rename : (a : Account G) (x : Result G) → outcome (renamed f a) (renamedResult f x) ≡ renamedOutcome f (outcome a x)
+  unfolding outcome renamedResult renamedOutcome
+  outcome-rename a (refused r) = refl
+  outcome-rename a (accepted b) = refl
+  outcome-rename a (answered v b) = refl
+
+  pub refused-outcome : (a : Account G) (why : Refusal) → outcome (renamed f a) (refused why) ≡ renamedOutcome f (outcome a (refused why))
+  refused-outcome a why = ap (outcome (renamed f a)) (refused-rename f why) ∙ outcome-rename a (refused why)
 
 module _ {G H : Type 0} (f : G → H) (z : G) where
   getD-rename : (gs : List G) → getD (map f gs) 0 (f z) ≡ f (getD gs 0 z)
@@ -57,15 +68,9 @@ module _ {G H : Type 0} (f : G → H) (z : G) where
   perform-rename capacity c25-leave gs a = simp calls
   perform-rename capacity c26-allocate-lig-id gs a = simp calls
 
-  outcome-rename : (a : Account G) (x : Result G) → outcome (renamed f a) (renamedResult f x) ≡ renamedOutcome f (outcome a x)
-  unfolding outcome renamedResult renamedOutcome
-  outcome-rename a (refused r) = refl
-  outcome-rename a (accepted b) = refl
-  outcome-rename a (answered v b) = refl
-
   pub step-rename : (first second : ℕ) (w : Worded G) (a : Account G) → step (f z) first second (reworded f w) (renamed f a) ≡ renamedOutcome f (step z first second w a)
   unfolding step reworded
-  step-rename first second w a = rw (perform-rename, refuse-rename) (outcome-rename a _)
+  step-rename first second w a = rw (perform-rename, refuse-rename) (outcome-rename f a _)
 
   -- every list of calls
   pub run-rename : (first second : ℕ) (ws : List (Worded G)) (a : Account G) → run (f z) first second (map (reworded f) ws) (renamed f a) ≡ map (renamedOutcome f) (run z first second ws a)

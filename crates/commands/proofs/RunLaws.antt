@@ -1,56 +1,104 @@
 -- Laws of the run: what is left of a string, command by command.
-use mathlib.Core.{Path._≡_, Path.refl, Path.sym, Path.ap, Path._∙_, Bool.Bool, Bool.true, Bool.false, Bool._&&_, Option.Option, List.List, List.[], List._∷_}
+use mathlib.Core.{Path._≡_, Path.refl, Path.sym, Path.ap, Path._∙_, Bool.Bool, Bool.true, Bool.false, Bool.cond, Bool._&&_, Bool.and-eq-true-iff, Option.Option, Option.none, Option.some, List.List, List.[], List._∷_}
 use Prim.Native.Nat.{ℕ, zero, suc, _+_, _-_, _<_, _≤_}
 use native.Mathlib.Nat.{add-zero}
 use native.Mathlib.Omega.{arith}
-use lib.{ListN.length, ListN.drop, ListN.drop-of-length-le}
-use Rattle.records.specs.{Done, Unreadable as Unread}
+use lib.{Dec.leb, ListN.length, ListN.drop, ListN.drop-of-length-le}
+use borrow.Author.Tests.{leb-true, leb-false}
+use Rattle.records.specs.{Done, Unreadable as Unread, View.wordsFrom}
+use Rattle.records.proofs.View.{beyond-more}
+use Rattle.lists.proofs.{Calls.outcome-refused, Counted.account-limits}
 use Rattle.lists.specs.declared.{Buffer.Buffer, Reply.Reply}
 use Rattle.lists.specs.{Account.Account, Results.Outcome, Results.refused, Results.outcome, State.account, State.sound, States.reply, Contract.isNo}
 use Rattle.commands.specs.Calls.{Worded, step}
 use Rattle.commands.specs.Bytes.{Read, unreadable, got, readUpTo, runRead, runBytes}
-use Rattle.commands.specs.Steps.{front, behind, lentFor, stepped, Steps}
-use Rattle.commands.specs.Runs.{lastOf, outcomes, Runs}
+use Rattle.commands.specs.Steps.{front, behind, lentFor, called, stepped, Steps}
+use Rattle.commands.specs.Runs.{lastOf, allNo, largest, outcomes, Runs}
+use Rattle.commands.specs.Returned.{outcomeOf}
 use Rattle.commands.specs.declared.{Step.Step}
 use Rattle.commands.proofs.Bytes.{continued}
 use Rattle.commands.proofs.Readings.{next}
 
 -- ---- one command of a list
-outcomeAt : ℕ → ℕ → Read (Worded ℕ) → Account ℕ → Outcome ℕ
-outcomeAt p q unreadable a = outcome a (refused Unread)
-outcomeAt p q (got w l) a = step 0 p q w a
+outcomeAt : (Worded ℕ → Account ℕ → Outcome ℕ) → Read (Worded ℕ) → Account ℕ → Outcome ℕ
+outcomeAt call unreadable a = outcome a (refused Unread)
+outcomeAt call (got w l) a = call w a
 
 none-left : (m : ℕ) → readUpTo m [] ≡ []
 unfolding readUpTo
 none-left zero = refl
 none-left (suc m) = refl
 
-runs-on : (p q m : ℕ) (x : Read (Worded ℕ)) (a : Account ℕ) → runRead p q (continued m x) a ≡ outcomeAt p q x a ∷ runRead p q (readUpTo m (behind x)) (outcomeAt p q x a .after)
+runs-on : (call : Worded ℕ → Account ℕ → Outcome ℕ) (m : ℕ) (x : Read (Worded ℕ)) (a : Account ℕ) → runRead call (continued m x) a ≡ outcomeAt call x a ∷ runRead call (readUpTo m (behind x)) (outcomeAt call x a .after)
 unfolding outcomeAt runRead continued behind
-runs-on p q m unreadable a = ap (λ (l : List (Outcome ℕ)). outcome a (refused Unread) ∷ l) (sym (ap (λ (l : List (Option (Worded ℕ))). runRead p q l (outcome a (refused Unread) .after)) (none-left m)))
-runs-on p q m (got w l) a = refl
+runs-on call m unreadable a = ap (λ (l : List (Outcome ℕ)). outcome a (refused Unread) ∷ l) (sym (ap (λ (l : List (Option (Worded ℕ))). runRead call l (outcome a (refused Unread) .after)) (none-left m)))
+runs-on call m (got w l) a = refl
 
 up-to-front : (m : ℕ) (t : List ℕ) (at : ℕ) → at < length t → readUpTo (suc m) (drop at t) ≡ continued m (front (drop at t))
 unfolding readUpTo continued front
 up-to-front m t at h = rw (next t at (at + 1) h (omega arith))
 
--- ---- a step of a sound buffer, and of one that is refused
-stepped-sound : (x : Read (Worded ℕ)) (b : Buffer) (f s : List ℕ) → sound b f s ≡ true → stepped true x b f s ≡ outcomeAt (length f) (length s) x (account b f s)
-unfolding stepped outcomeAt
-stepped-sound unreadable b f s h = refl
-stepped-sound (got w l) b f s h = rw h
+-- at the end of a string nothing is left
+pub ends : (call : Worded ℕ → Account ℕ → Outcome ℕ) (m : ℕ) (t : List ℕ) (at : ℕ) (a : Account ℕ) → length t ≤ at → runRead call (readUpTo m (drop at t)) a ≡ []
+unfolding runRead
+ends call m t at a h = ap (λ (j : List (Option (Worded ℕ))). runRead call j a) (ap (readUpTo m) (drop-of-length-le t h) ∙ none-left m)
 
-stepped-refused : (roomy : Bool) (x : Read (Worded ℕ)) (b : Buffer) (f s : List ℕ) → (sound b f s && roomy) ≡ false → isNo (stepped roomy x b f s .answer) ≡ true
-unfolding stepped outcome
-stepped-refused roomy unreadable b f s h = refl
-stepped-refused roomy (got w l) b f s h = rw h
+-- ---- a step
+stepped-is : (roomy : Bool) (x : Read (Worded ℕ)) (b : Buffer) (f s : List ℕ) → stepped roomy x b f s ≡ outcomeAt (called (sound b f s && roomy) (length f) (length s)) x (account b f s)
+unfolding stepped outcomeAt
+stepped-is roomy unreadable b f s = refl
+stepped-is roomy (got w l) b f s = refl
+
+stepped-refused : (roomy : Bool) (x : Read (Worded ℕ)) (b : Buffer) (f s : List ℕ) → sound b f s ≡ false → isNo (stepped roomy x b f s .answer) ≡ true
+unfolding stepped called
+stepped-refused roomy unreadable b f s h = rw outcome-refused
+stepped-refused roomy (got w l) b f s h = rw (h, outcome-refused)
+
+module _ {t : List ℕ} {at n : ℕ} {b : Buffer} {f s : List ℕ} {r : Step} {f′ s′ : List ℕ} (w : Steps t at n b f s r f′ s′) where
+  -- a buffer that contradicts itself is refused, and so stays as it is
+  pub same-sound : sound (r .reply .buffer) f′ s′ ≡ sound b f s
+  same-sound = by (sound b f s) refl
+    where
+      by : (x : Bool) → sound b f s ≡ x → sound (r .reply .buffer) f′ s′ ≡ sound b f s
+      by true e = w .stays-sound e ∙ sym e
+      by false e = let q = w .stays (ap (λ (o : Outcome ℕ). isNo (o .answer)) (w .is) ∙ stepped-refused (lentFor t n) (front (drop at t)) b f s e) in rw (q .0, q .1, q .2)
+
+  -- its outcome is the first of what is left
+  pub goes-on : (m : ℕ) → at < length t
+      → let call = called (sound b f s && lentFor t n) (length f) (length s) in
+      runRead call (readUpTo (suc m) (drop at t)) (account b f s) ≡ outcomeOf (r .reply) f′ s′ ∷ runRead call (readUpTo m (drop (r .next) t)) (account (r .reply .buffer) f′ s′)
+  unfolding outcomeOf
+  goes-on m h =
+      let call = called (sound b f s && lentFor t n) (length f) (length s) in
+      let y = front (drop at t) in
+      let is : outcomeOf (r .reply) f′ s′ ≡ outcomeAt call y (account b f s) = w .is ∙ stepped-is (lentFor t n) y b f s in
+      ap (λ (j : List (Option (Worded ℕ))). runRead call j (account b f s)) (up-to-front m t at h)
+      ∙ (runs-on call m y (account b f s)
+      ∙ rw (← is, ← w .next-is))
+
+-- ---- where refusal 1 meets no command, the outcomes are the account's own
+called-step : (p q : ℕ) (ws : List (Option (Worded ℕ))) (a : Account ℕ) → runRead (called true p q) ws a ≡ runRead (step 0 p q) ws a
+unfolding runRead called
+called-step p q [] a = refl
+called-step p q (none ∷ ws) a = refl
+called-step p q (some w ∷ ws) a = ap (λ (l : List (Outcome ℕ)). step 0 p q w a ∷ l) (called-step p q ws (step 0 p q w a .after))
+
+pub outcomes-are : (script : List ℕ) (n : ℕ) (b : Buffer) (f s : List ℕ) → sound b f s ≡ true → lentFor script n ≡ true → outcomes script n b f s ≡ runBytes (length f) (length s) script (account b f s)
+unfolding runBytes
+outcomes-are script n b f s h k = rw (h, k) (called-step (length f) (length s) (readUpTo (length script) script) (account b f s))
+
+-- ---- the sizes on the way
+largest-parts : (o : Outcome ℕ) (l : List (Outcome ℕ)) (m : ℕ) → largest (o ∷ l) ≤ m → (o .after .state .limits .allocated ≤ m) × (largest l ≤ m)
+unfolding largest
+largest-parts o l m h = by (leb (o .after .state .limits .allocated) (largest l)) refl h
+  where
+    by : (x : Bool) → leb (o .after .state .limits .allocated) (largest l) ≡ x → cond x (largest l) (o .after .state .limits .allocated) ≤ m → (o .after .state .limits .allocated ≤ m) × (largest l ≤ m)
+    by true e k = let low : o .after .state .limits .allocated ≤ largest l = leb-true _ _ e in (omega arith, k)
+    by false e k = let low : largest l < o .after .state .limits .allocated = leb-false _ _ e in (k, omega arith)
 
 -- ---- the run so far: x is the last step, k commands are done
-abbrev given : Step → (f s : List ℕ) → Outcome ℕ
-given x f s = record { answer = x .reply .answer; after = account (x .reply .buffer) f s }
-
-abbrev left : (p q : ℕ) → List ℕ → Step → ℕ → (f s : List ℕ) → List (Outcome ℕ)
-left p q t x k f s = runRead p q (readUpTo (length t - k) (drop (x .next) t)) (account (x .reply .buffer) f s)
+abbrev left : (lent : Bool) (p q : ℕ) → List ℕ → Step → ℕ → (f s : List ℕ) → List (Outcome ℕ)
+left lent p q t x k f s = runRead (called lent p q) (readUpTo (length t - k) (drop (x .next) t)) (account (x .reply .buffer) f s)
 
 pub record Running (t l₀ : List ℕ) (b₀ : Buffer) (f₀ s₀ l f s : List ℕ) (x : Step) (k : ℕ) : Type 0 where
   pub in-string : x .next ≤ length t
@@ -58,15 +106,18 @@ pub record Running (t l₀ : List ℕ) (b₀ : Buffer) (f₀ s₀ l f s : List �
   pub first-len : length f ≡ length f₀
   pub second-len : length s ≡ length s₀
   pub third-len : length l ≡ length l₀
-  pub stays : (sound b₀ f₀ s₀ && lentFor t (length l₀)) ≡ false → (x .reply .buffer ≡ b₀) × (f ≡ f₀) × (s ≡ s₀)
-  pub stays-sound : sound b₀ f₀ s₀ ≡ true → sound (x .reply .buffer) f s ≡ true
-  pub last : sound b₀ f₀ s₀ ≡ true → lentFor t (length l₀) ≡ true
-      → lastOf (record { answer = Done; after = account b₀ f₀ s₀ }) (outcomes t b₀ f₀ s₀) ≡ lastOf (given x f s) (left (length f₀) (length s₀) t x k f s)
-  pub all : sound b₀ f₀ s₀ ≡ true → lentFor t (length l₀) ≡ true → length (outcomes t b₀ f₀ s₀) ≡ length (left (length f₀) (length s₀) t x k f s) + k
+  pub sounds : sound (x .reply .buffer) f s ≡ sound b₀ f₀ s₀
+  -- what is left, of all outcomes
+  pub ahead : List (Outcome ℕ)
+  pub ahead-is : ahead ≡ left (sound b₀ f₀ s₀ && lentFor t (length l₀)) (length f₀) (length s₀) t x k f s
+  pub last : lastOf (record { answer = Done; after = account b₀ f₀ s₀ }) (outcomes t (length l₀) b₀ f₀ s₀) ≡ lastOf (outcomeOf (x .reply) f s) ahead
+  pub all : length (outcomes t (length l₀) b₀ f₀ s₀) ≡ length ahead + k
+  pub stays : allNo (outcomes t (length l₀) b₀ f₀ s₀) ≡ true → (allNo ahead ≡ true) × (x .reply .buffer ≡ b₀) × (f ≡ f₀) × (s ≡ s₀)
+  pub beyond : (m : ℕ) → largest (outcomes t (length l₀) b₀ f₀ s₀) ≤ m → (largest ahead ≤ m) × (wordsFrom m f ≡ wordsFrom m f₀) × (wordsFrom m s ≡ wordsFrom m s₀)
 
 module _ {t l₀ : List ℕ} {b₀ : Buffer} {f₀ s₀ : List ℕ} where
   pub running-none : {r : Reply} → r ≡ reply b₀ Done → Running t l₀ (r .buffer) f₀ s₀ l₀ f₀ s₀ (record { reply = r; next = 0 }) 0
-  unfolding runBytes
+  unfolding outcomeOf
   running-none e =
       let whole : length t - 0 ≡ length t = omega arith in
       rw e (record {
@@ -75,52 +126,62 @@ module _ {t l₀ : List ℕ} {b₀ : Buffer} {f₀ s₀ : List ℕ} where
         first-len = refl;
         second-len = refl;
         third-len = refl;
-        stays = λ h. (refl, refl, refl);
-        stays-sound = λ h. h;
-        last = λ h k. rw whole;
-        all = λ h k. rw (whole, add-zero);
+        sounds = refl;
+        ahead = outcomes t (length l₀) b₀ f₀ s₀;
+        ahead-is = rw whole;
+        last = refl;
+        all = rw add-zero;
+        stays = λ h. (h, refl, refl, refl);
+        beyond = λ m h. (h, refl, refl);
       })
 
   module _ {l f s f′ s′ : List ℕ} {x r : Step} {k : ℕ} (v : Running t l₀ b₀ f₀ s₀ l f s x k) (h : x .next < length t) (w : Steps t (x .next) (length l) (x .reply .buffer) f s r f′ s′) where
-    goes-on : sound b₀ f₀ s₀ ≡ true → lentFor t (length l₀) ≡ true → left (length f₀) (length s₀) t x k f s ≡ given r f′ s′ ∷ left (length f₀) (length s₀) t r (k + 1) f′ s′
-    goes-on hs hr =
-        let m = length t - (k + 1) in
+    size-is : {m : ℕ} → (outcomeOf (r .reply) f′ s′) .after .state .limits .allocated ≤ m → r .reply .buffer .limits .allocated ≤ m
+    unfolding outcomeOf
+    size-is {m} e = rw (account-limits (r .reply .buffer) f′ s′) at e
+
+    onwards : v .ahead ≡ outcomeOf (r .reply) f′ s′ ∷ left (sound b₀ f₀ s₀ && lentFor t (length l₀)) (length f₀) (length s₀) t r (k + 1) f′ s′
+    onwards =
         let one : length t - k ≡ suc (length t - (k + 1)) = omega (arith, v .few) in
-        let a = account (x .reply .buffer) f s in
-        let y = front (drop (x .next) t) in
-        let is : given r f′ s′ ≡ outcomeAt (length f₀) (length s₀) y a = rw (v .third-len, hr, stepped-sound y (x .reply .buffer) f s (v .stays-sound hs), v .first-len, v .second-len) at (w .is) in
-        ap (λ (j : ℕ). runRead (length f₀) (length s₀) (readUpTo j (drop (x .next) t)) a) one
-        ∙ (ap (λ (j : List (Option (Worded ℕ))). runRead (length f₀) (length s₀) j a) (up-to-front m t (x .next) h)
-        ∙ (runs-on (length f₀) (length s₀) m y a
-        ∙ rw (← is, ← w .next-is)))
+        v .ahead-is ∙ rw one (rw (v .sounds, v .third-len, v .first-len, v .second-len) at (goes-on w (length t - (k + 1)) h))
 
     pub running-more : {l′ : List ℕ} → length f′ ≡ length f → length s′ ≡ length s → length l′ ≡ length l → Running t l₀ b₀ f₀ s₀ l′ f′ s′ r (k + 1)
-    unfolding lastOf
-    running-more ef es el = record {
-      in-string = w .next-in;
-      few = omega (arith, v .few, w .onward h);
-      first-len = ef ∙ v .first-len;
-      second-len = es ∙ v .second-len;
-      third-len = el ∙ v .third-len;
-      stays = λ e.
-          let p = v .stays e in
-          let still : (sound (x .reply .buffer) f s && lentFor t (length l)) ≡ false = rw (p .0, p .1, p .2, v .third-len) e in
-          let q = w .stays (ap (λ (o : Outcome ℕ). isNo (o .answer)) (w .is) ∙ stepped-refused (lentFor t (length l)) (front (drop (x .next) t)) (x .reply .buffer) f s still) in
-          (q .0 ∙ p .0, q .1 ∙ p .1, q .2 ∙ p .2);
-      stays-sound = λ e. w .stays-sound (v .stays-sound e);
-      last = λ hs hr. v .last hs hr ∙ ap (lastOf (given x f s)) (goes-on hs hr);
-      all = λ hs hr. v .all hs hr ∙ (ap (λ (j : List (Outcome ℕ)). length j + k) (goes-on hs hr) ∙ omega arith);
-    }
+    unfolding lastOf allNo outcomeOf
+    running-more ef es el =
+        let rest = left (sound b₀ f₀ s₀ && lentFor t (length l₀)) (length f₀) (length s₀) t r (k + 1) f′ s′ in
+        record {
+          in-string = w .next-in;
+          few = omega (arith, v .few, w .onward h);
+          first-len = ef ∙ v .first-len;
+          second-len = es ∙ v .second-len;
+          third-len = el ∙ v .third-len;
+          sounds = same-sound w ∙ v .sounds;
+          ahead = rest;
+          ahead-is = refl;
+          last = v .last ∙ ap (lastOf (outcomeOf (x .reply) f s)) onwards;
+          all = v .all ∙ (ap (λ (j : List (Outcome ℕ)). length j + k) onwards ∙ omega arith);
+          stays = λ e.
+              let p = v .stays e in
+              let no = and-eq-true-iff (isNo (r .reply .answer)) (allNo rest) .0 (sym (ap allNo onwards) ∙ p .0) in
+              let q = w .stays (no .0) in
+              (no .1, q .0 ∙ p .1, q .1 ∙ p .2, q .2 ∙ p .3);
+          beyond = λ m e.
+              let p = v .beyond m e in
+              let sizes = largest-parts (outcomeOf (r .reply) f′ s′) rest m (rw onwards at (p .0)) in
+              (sizes .1, beyond-more f′ f (size-is (sizes .0)) (w .first-beyond) ∙ p .1, beyond-more s′ s (size-is (sizes .0)) (w .second-beyond) ∙ p .2);
+        }
 
   pub running-done : {l f s : List ℕ} {x : Step} {k : ℕ} {r : Reply} → r ≡ reply b₀ Done → Running t l₀ (r .buffer) f₀ s₀ l f s x k → length t ≤ x .next → Runs t (length l₀) b₀ f₀ s₀ (record { reply = x .reply; commands = k }) f s
-  unfolding lastOf runRead
+  unfolding lastOf outcomeOf
   running-done {l} {f} {s} {x} {k} e u h =
       let v : Running t l₀ b₀ f₀ s₀ l f s x k = rw e at u in
-      let no : drop (x .next) t ≡ [] = drop-of-length-le t h in
-      let end : left (length f₀) (length s₀) t x k f s ≡ [] = ap (λ (j : List (Option (Worded ℕ))). runRead (length f₀) (length s₀) j (account (x .reply .buffer) f s)) (ap (readUpTo (length t - k)) no ∙ none-left (length t - k)) in
+      let none : v .ahead ≡ [] = v .ahead-is ∙ ends (called (sound b₀ f₀ s₀ && lentFor t (length l₀)) (length f₀) (length s₀)) (length t - k) t (x .next) (account (x .reply .buffer) f s) h in
+      let words = v .beyond (largest (outcomes t (length l₀) b₀ f₀ s₀)) (omega arith) in
       record {
-        last = λ hs hr. sym (v .last hs hr ∙ ap (lastOf (given x f s)) end);
-        all = λ hs hr. sym (v .all hs hr ∙ (ap (λ (j : List (Outcome ℕ)). length j + k) end ∙ omega arith));
-        stays = v .stays;
-        stays-sound = v .stays-sound;
+        last = sym (v .last ∙ ap (lastOf (outcomeOf (x .reply) f s)) none);
+        all = sym (v .all ∙ (ap (λ (j : List (Outcome ℕ)). length j + k) none ∙ omega arith));
+        stays = λ a. let p = v .stays a in (p .1, p .2, p .3);
+        first-beyond = words .1;
+        second-beyond = words .2;
+        stays-sound = λ a. v .sounds ∙ a;
       }

@@ -8,12 +8,12 @@ use borrow.Author.Tests.{ltb-true, ltb-false, le-ltb, le-leb, lt-leb}
 use Rattle.records.specs.{Contradiction, Unreadable as Unread, No, Counters.capacityOf, Counters.rightlyLent}
 use Rattle.lists.specs.declared.{Buffer.Buffer, Reply.Reply}
 use Rattle.lists.specs.{Account.Account, Results.Result, Results.refused, Results.outcome, Results.refuse_when_else_, State.account, State.sound, States.reply, Contract.judged, Contract.Meets}
-use Rattle.lists.proofs.{Accounts.sound-lent}
+use Rattle.lists.proofs.{Accounts.sound-lent, Calls.judged-sound, Calls.judged-unsound, Calls.outcome-refused, Chains.meets-same, Chains.meets-contradiction, Simple.refuse-yes, Simple.refuse-no}
 use Rattle.edits.specs.Writing.{replaceGlyphs}
 use Rattle.commands.specs.Calls.{Worded, perform, step}
 use Rattle.commands.specs.Bytes.{Read, unreadable, got, Form, unknown, plain, glyphAnd, listed, forms, at}
 use Rattle.commands.specs.Reading.{wordAt, wordsAt, formOf, operandsOf, count, made, ordered, wordedOf, readingOf, Reads}
-use Rattle.commands.specs.Steps.{front, behind, lentFor, stepped, Steps}
+use Rattle.commands.specs.Steps.{front, behind, lentFor, called, stepped, Steps}
 use Rattle.commands.specs.declared.{Order.Order, Reading.Reading, Reading.the-variants.Command, Reading.the-variants.Unreadable}
 use Rattle.commands.proofs.Readings.{isListed, next}
 
@@ -51,6 +51,10 @@ module _ {s : List ℕ} {from n : ℕ} {l₀ : List ℕ} where
 
   pub copied-done : {l : List ℕ} {i : ℕ} → Copied s from n l₀ l i → n ≤ i → take n l ≡ wordsAt s from n
   copied-done {l} {i} c h = let e : n ≡ i = omega (arith, c .below) in rw e (c .same)
+
+pub quarter-lent : (t : List ℕ) (n : ℕ) → length t ≤ 4 * n → lentFor t n ≡ true
+unfolding lentFor
+quarter-lent t n h = le-leb (length t / 4) n (omega (arith, h))
 
 -- ---- calls with glyph numbers of their own
 -- numbers beyond the stated count are left alone
@@ -111,17 +115,6 @@ ordered-same o gs hs h = made-unlisted (formOf (o .byte)) _ gs hs (only-at 14 fo
 
 -- ---- calls
 module _ {b : Buffer} {f s f′ s′ : List ℕ} {r : Reply} where
-  -- calls that come to the same
-  meets-same : {call call′ : ℕ → Account ℕ → Result ℕ} → ((capacity : ℕ) (a : Account ℕ) → call capacity a ≡ call′ capacity a) → Meets call b f s r f′ s′ → Meets call′ b f s r f′ s′
-  unfolding judged
-  meets-same e m = record {
-    is = m .is ∙ ap (λ (x : Result ℕ). outcome (account b f s) (refuse Contradiction when not (sound b f s) else x)) (e (capacityOf (length f)) (account b f s));
-    stays = m .stays;
-    first-beyond = m .first-beyond;
-    second-beyond = m .second-beyond;
-    stays-sound = m .stays-sound;
-  }
-
   pub call-listed : (t gs : List ℕ) (o : Order) → o .byte ≡ 14 → o .b ≤ length gs → take (o .b) gs ≡ wordsAt t (o .numbers) (o .b)
       → Meets (λ capacity a. perform 0 capacity (ordered o gs .call) (ordered o gs .glyphs) a) b f s r f′ s′
       → Meets (λ capacity a. perform 0 capacity (wordedOf t o .call) (wordedOf t o .glyphs) a) b f s r f′ s′
@@ -137,19 +130,15 @@ module _ {b : Buffer} {f s f′ s′ : List ℕ} {r : Reply} where
   -- the third slice is long enough
   pub call-lent : {call : ℕ → Account ℕ → Result ℕ} (t : List ℕ) (n : ℕ) → length t / 4 ≤ n → Meets (λ capacity a. call capacity a) b f s r f′ s′
       → Meets (λ capacity a. refuse Contradiction when not (lentFor t n) else call capacity a) b f s r f′ s′
-  unfolding lentFor refuse_when_else_
-  call-lent {call} t n h m = meets-same (λ capacity a. sym (rw (le-leb (length t / 4) n h))) m
+  unfolding lentFor
+  call-lent {call} t n h m = meets-same (λ capacity a. sym (refuse-no Contradiction (call capacity a) (not (lentFor t n)) (rw (le-leb (length t / 4) n h)))) m
 
 -- or too short, which is refusal 1
 module _ {b : Buffer} {f s : List ℕ} {r : Reply} where
   pub call-short : (call : ℕ → Account ℕ → Result ℕ) (t : List ℕ) (n : ℕ) → n < length t / 4 → r ≡ reply b (No Contradiction)
       → Meets (λ capacity a. refuse Contradiction when not (lentFor t n) else call capacity a) b f s r f s
-  unfolding lentFor judged refuse_when_else_ outcome
-  call-short call t n h e = rw e (record { is = rw (lt-leb (length t / 4) n h) (sym (by (not (sound b f s)))); stays = λ k. (refl, refl, refl); first-beyond = refl; second-beyond = refl; stays-sound = λ k. k })
-    where
-      by : (x : Bool) → outcome (account b f s) (cond x (refused Contradiction) (refused Contradiction)) ≡ record { answer = No Contradiction; after = account b f s }
-      by true = refl
-      by false = refl
+  unfolding lentFor
+  call-short call t n h e = meets-contradiction (λ capacity a. refuse-yes Contradiction (call capacity a) (not (lentFor t n)) (rw (lt-leb (length t / 4) n h))) e
 
 -- ---- the step
 isCommand : Reading → Bool
@@ -187,15 +176,18 @@ module _ {t : List ℕ} {at : ℕ} where
 -- what a call of an order comes to is the account's own step
 step-judged : (w : Worded ℕ) (l : List ℕ) (roomy : Bool) (b : Buffer) (f s : List ℕ)
     → judged (λ capacity a. refuse Contradiction when not roomy else perform 0 capacity (w .call) (w .glyphs) a) b f s ≡ stepped roomy (got w l) b f s
-unfolding stepped step judged refuse_when_else_ outcome
+unfolding stepped called step
 step-judged w l roomy b f s = by (sound b f s) refl roomy
   where
+    act : Result ℕ
+    act = perform 0 (capacityOf (length f)) (w .call) (w .glyphs) (account b f s)
+
     by : (x : Bool) → sound b f s ≡ x → (y : Bool)
-        → outcome (account b f s) (cond (not x) (refused Contradiction) (cond (not y) (refused Contradiction) (perform 0 (capacityOf (length f)) (w .call) (w .glyphs) (account b f s))))
-        ≡ cond (x && y) (outcome (account b f s) (cond (not (rightlyLent (length f) (length s))) (refused Contradiction) (perform 0 (capacityOf (length f)) (w .call) (w .glyphs) (account b f s)))) (record { answer = No Contradiction; after = account b f s })
-    by false e y = refl
-    by true e false = refl
-    by true e true = rw (sound-lent b f s e)
+        → judged (λ capacity a. refuse Contradiction when not y else perform 0 capacity (w .call) (w .glyphs) a) b f s
+        ≡ cond (x && y) (outcome (account b f s) (refuse Contradiction when not (rightlyLent (length f) (length s)) else act)) (outcome (account b f s) (refused Contradiction))
+    by false e y = judged-unsound _ b f s e
+    by true e false = judged-sound _ b f s e ∙ ap (outcome (account b f s)) (refuse-yes Contradiction act true refl)
+    by true e true = judged-sound _ b f s e ∙ ap (outcome (account b f s)) (refuse-no Contradiction act false refl ∙ sym (refuse-no Contradiction act (not (rightlyLent (length f) (length s))) (rw (sound-lent b f s e))))
 
 module _ {t : List ℕ} {at : ℕ} {b : Buffer} {f s : List ℕ} {r : Reply} where
   pub step-obeyed : {f′ s′ : List ℕ} (n : ℕ) (o : Order) (reading : Reading) → reading ≡ Command o → Reads t at reading
@@ -219,12 +211,12 @@ module _ {t : List ℕ} {at : ℕ} {b : Buffer} {f s : List ℕ} {r : Reply} whe
 
   -- refusal 6, which ends the string
   pub step-unread : (n : ℕ) (reading : Reading) → reading ≡ Unreadable → Reads t at reading → r ≡ reply b (No Unread) → Steps t at n b f s (record { reply = r; next = length t }) f s
-  unfolding behind stepped outcome
+  unfolding behind stepped
   step-unread n reading e′ v e =
       let w : Reads t at Unreadable = rw e′ at v in
       let here : front (drop at t) ≡ unreadable = unread-front w in
       rw e (record {
-        is = sym (ap (λ (x : Read (Worded ℕ)). stepped (lentFor t n) x b f s) here);
+        is = sym (ap (λ (x : Read (Worded ℕ)). stepped (lentFor t n) x b f s) here ∙ outcome-refused (account b f s) Unread);
         stays = λ k. (refl, refl, refl);
         first-beyond = refl;
         second-beyond = refl;

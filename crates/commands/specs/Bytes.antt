@@ -96,12 +96,12 @@ readUpTo zero l = []
 readUpTo (suc n) [] = []
 readUpTo (suc n) (byte ∷ l) = elim (readForm (getD forms byte unknown) l) [ unreadable ↦ none ∷ [] | got w r ↦ some w ∷ readUpTo n r ]
 
--- the outcome of each call read; "Bytes end at their first refusal 6", which comes before refusal 1
-unfoldable pub runRead : ℕ → ℕ → List (Option (Worded ℕ)) → Account ℕ → List (Outcome ℕ)
-runRead first second [] a = []
-runRead first second (none ∷ ws) a = outcome a (refused Unreadable) ∷ []
-runRead first second (some w ∷ ws) a = let o = step 0 first second w a in o ∷ runRead first second ws (o .after)
+-- the outcome of each call read, by what a call comes to; "Bytes end at their first refusal 6", which comes before refusal 1
+unfoldable pub runRead : (Worded ℕ → Account ℕ → Outcome ℕ) → List (Option (Worded ℕ)) → Account ℕ → List (Outcome ℕ)
+runRead call [] a = []
+runRead call (none ∷ ws) a = outcome a (refused Unreadable) ∷ []
+runRead call (some w ∷ ws) a = let o = call w a in o ∷ runRead call ws (o .after)
 
 -- a string has at most as many commands as bytes
 unfoldable pub runBytes : ℕ → ℕ → List ℕ → Account ℕ → List (Outcome ℕ)
-runBytes first second bytes a = runRead first second (readUpTo (length bytes) bytes) a
+runBytes first second bytes a = runRead (step 0 first second) (readUpTo (length bytes) bytes) a

@@ -4,5 +4,7 @@ pub mod Renaming
 pub mod Demand
 pub mod Lines
 pub mod Reading
+pub mod Scripts
 pub mod Steps
 pub mod Runs
+pub mod Returned

@@ -2,10 +2,10 @@
 -- "Lines: command, `ok` or `no` number, returned value if any (1 is true); `end` len, idx, out_len, max_ops, successful; then done `o`, passed `p`, input `i`: glyph, cluster, mask, var0, var1; positions `x`, five words."
 use mathlib.Core.{Path._≡_, Bool.Bool, Bool.cond, List.List, List.[], List._∷_, List._++_, List.map, List.flatMap}
 use Prim.Native.Nat.{ℕ, zero, suc, _+_, _-_, _/_, _%_, _≤_, _<_}
-use lib.{Dec.ltb, ListN.length, Seq.sets}
-use Rattle.records.specs.{Position, Answer, Done, Value, No, Counters.refusalNumber, Counters.isNegative, Glyphs.Glyph}
-use Rattle.lists.specs.{Account.Account, Account.len, Account.idx, Account.outLen, Account.positions, Account.spoiledPhase}
-use Rattle.lists.specs.declared.Buffer.{Buffer}
+use lib.{Dec.ltb, ListN.length, ListN.getD, Seq.sets}
+use Rattle.records.specs.{Position, Answer, Done, Value, No, Counters.refusalNumber, Counters.isNegative, Glyphs.Glyph, View.seen}
+use Rattle.lists.specs.{Account.Account, Account.len, Account.idx, Account.outLen, Account.spoiledPhase, State.account, State.sound, Items.items}
+use Rattle.lists.specs.declared.{Buffer.Buffer, Item.Item, Item.the-variants.OfDone, Item.the-variants.OfPassed, Item.the-variants.OfRest, Item.the-variants.Placed, Item.the-variants.Nothing}
 
 -- ---- numbers
 -- the last digit of n
@@ -53,8 +53,8 @@ unfoldable pub endLine : Account ℕ → List ℕ
 endLine a = countersLine (len a) (idx a) (outLen a) (a .state .limits .«max_ops») (a .state .limits .successful)
 
 -- the same of a buffer's own counters; spoiled, `idx` is 0
-unfoldable pub endOf : Buffer → List ℕ
-endOf b = countersLine (b .len .0) (cond (spoiledPhase (b .phase)) 0 (b .idx .0)) (b .«out_len» .0) (b .limits .«max_ops») (b .limits .successful)
+unfoldable pub endLineOf : Buffer → List ℕ
+endLineOf b = countersLine (b .len .0) (cond (spoiledPhase (b .phase)) 0 (b .idx .0)) (b .«out_len» .0) (b .limits .«max_ops») (b .limits .successful)
 
 -- "done `o`, passed `p`, input `i`: glyph, cluster, mask, var0, var1"
 unfoldable pub glyphLine : ℕ → Glyph ℕ → List ℕ
@@ -64,9 +64,28 @@ glyphLine kind g = kind ∷ ending (map decimal (g .glyph ∷ g .info .cluster �
 unfoldable pub positionLine : Position → List ℕ
 positionLine q = 120 ∷ ending (signed (q .«x_advance») ∷ signed (q .«y_advance») ∷ signed (q .«x_offset») ∷ signed (q .«y_offset») ∷ decimal (q .var) ∷ [])
 
--- what is printed at the end of a run, kinds `o`, `p` and `i`
+-- done `o`, passed `p`, input `i`, positions `x`
+unfoldable pub itemLine : Item → List ℕ
+itemLine (OfDone g) = glyphLine 111 (seen g)
+itemLine (OfPassed g) = glyphLine 112 (seen g)
+itemLine (OfRest g) = glyphLine 105 (seen g)
+itemLine (Placed q) = positionLine q
+itemLine Nothing = []
+
+-- the lines printed at the end of a run
+unfoldable pub reportLines : Account ℕ → List (List ℕ)
+reportLines a = endLine a ∷ map itemLine (items a)
+
 unfoldable pub report : Account ℕ → List ℕ
-report a = endLine a ++ (flatMap (glyphLine 111) (a .done) ++ (flatMap (glyphLine 112) (a .passed) ++ (flatMap (glyphLine 105) (a .rest) ++ flatMap positionLine (positions a))))
+report a = flatMap (λ l. l) (reportLines a)
+
+-- of a buffer; there are none of one that contradicts itself
+unfoldable pub reported : Buffer → (first second : List ℕ) → List (List ℕ)
+reported b f s = cond (sound b f s) (reportLines (account b f s)) []
+
+-- the k-th of some lines; past the last, nothing
+abbrev pub lineOf : ℕ → List (List ℕ) → List ℕ
+lineOf k ls = getD ls k []
 
 -- ---- where lines are written
 -- these bytes stand from `at` on, and nothing else is changed; r is the place after them

@@ -1,29 +1,40 @@
 -- A byte string on a buffer: "Each gets the state the last one returned or left, and the same slices".
-use mathlib.Core.{Path._≡_, Bool.true, Bool.false, Bool._&&_, List.List, List.[], List._∷_}
+use mathlib.Core.{Path._≡_, Bool.Bool, Bool.true, Bool.cond, Bool._&&_, List.List, List.[], List._∷_}
 use Prim.Native.Nat.{ℕ}
-use lib.{ListN.length}
-use Rattle.records.specs.{Done}
-use Rattle.lists.specs.{Results.Outcome, State.account, State.sound}
+use lib.{Dec.leb, ListN.length}
+use Rattle.records.specs.{Done, View.wordsFrom}
+use Rattle.lists.specs.{Results.Outcome, State.account, State.sound, Contract.isNo}
 use Rattle.lists.specs.declared.{Buffer.Buffer}
-use Rattle.commands.specs.Bytes.{runBytes}
-use Rattle.commands.specs.Steps.{lentFor}
+use Rattle.commands.specs.Bytes.{readUpTo, runRead}
+use Rattle.commands.specs.Steps.{lentFor, called}
 use Rattle.commands.specs.declared.Ran.{Ran}
 
 -- the last outcome, if there is one
-unfoldable pub lastOf : Outcome ℕ → List (Outcome ℕ) → Outcome ℕ
+unfoldable pub lastOf : {A : Type 0} → A → List A → A
 lastOf o [] = o
 lastOf o (p ∷ l) = lastOf p l
 
--- the account's own outcomes of a string on a buffer
-abbrev pub outcomes : List ℕ → Buffer → (first second : List ℕ) → List (Outcome ℕ)
-outcomes script b f s = runBytes (length f) (length s) script (account b f s)
+-- whether every call is refused
+unfoldable pub allNo : List (Outcome ℕ) → Bool
+allNo [] = true
+allNo (o ∷ l) = isNo (o .answer) && allNo l
 
--- n is the length of the third slice
+-- the largest allocated size that a call leaves
+unfoldable pub largest : List (Outcome ℕ) → ℕ
+largest [] = 0
+largest (o ∷ l) = let size = o .after .state .limits .allocated in cond (leb size (largest l)) (largest l) size
+
+-- the outcomes of a string on a buffer: the account's own, `runBytes`, or refusal 1 of every call that is read. n is the length of the third slice
+abbrev pub outcomes : List ℕ → (n : ℕ) → Buffer → (first second : List ℕ) → List (Outcome ℕ)
+outcomes script n b f s = runRead (called (sound b f s && lentFor script n) (length f) (length s)) (readUpTo (length script) script) (account b f s)
+
 pub record Runs (script : List ℕ) (n : ℕ) (b : Buffer) (f s : List ℕ) (r : Ran) (f′ s′ : List ℕ) : Type 0 where
   -- the last answer and account, and how many outcomes there are
-  pub last : sound b f s ≡ true → lentFor script n ≡ true
-      → record { answer = r .reply .answer; after = account (r .reply .buffer) f′ s′ } ≡ lastOf (record { answer = Done; after = account b f s }) (outcomes script b f s)
-  pub all : sound b f s ≡ true → lentFor script n ≡ true → r .commands ≡ length (outcomes script b f s)
-  -- where each command is refused, nothing changes
-  pub stays : (sound b f s && lentFor script n) ≡ false → (r .reply .buffer ≡ b) × (f′ ≡ f) × (s′ ≡ s)
+  pub last : record { answer = r .reply .answer; after = account (r .reply .buffer) f′ s′ } ≡ lastOf (record { answer = Done; after = account b f s }) (outcomes script n b f s)
+  pub all : r .commands ≡ length (outcomes script n b f s)
+  -- refusals change no state and no word
+  pub stays : allNo (outcomes script n b f s) ≡ true → (r .reply .buffer ≡ b) × (f′ ≡ f) × (s′ ≡ s)
+  -- "Words from the allocated size on are never written": from the largest on the way, since 00 puts it back to 0
+  pub first-beyond : let size = largest (outcomes script n b f s) in wordsFrom size f′ ≡ wordsFrom size f
+  pub second-beyond : let size = largest (outcomes script n b f s) in wordsFrom size s′ ≡ wordsFrom size s
   pub stays-sound : sound b f s ≡ true → sound (r .reply .buffer) f′ s′ ≡ true

@@ -3,7 +3,7 @@ use mathlib.Core.{Path._≡_, Bool.Bool, Bool.true, Bool.cond, Bool._&&_, List.L
 use Prim.Native.Nat.{ℕ, _/_, _<_, _≤_}
 use lib.{Dec.leb, ListN.length, ListN.drop}
 use Rattle.records.specs.{Contradiction, Unreadable, View.wordsFrom}
-use Rattle.lists.specs.{Results.Outcome, Results.refused, Results.outcome, State.account, State.sound, Contract.isNo}
+use Rattle.lists.specs.{Account.Account, Results.Outcome, Results.refused, Results.outcome, State.account, State.sound, Contract.isNo}
 use Rattle.lists.specs.declared.{Buffer.Buffer}
 use Rattle.commands.specs.Calls.{Worded, step}
 use Rattle.commands.specs.Bytes.{Read, unreadable, got, readForm}
@@ -23,10 +23,14 @@ behind (got w l) = l
 unfoldable pub lentFor : List ℕ → ℕ → Bool
 lentFor script numbers = leb (length script / 4) numbers
 
+-- what a call comes to: refusal 1 where the state contradicts itself or a slice is not as it should be, else the account's step
+unfoldable pub called : (rightful : Bool) → (first second : ℕ) → Worded ℕ → Account ℕ → Outcome ℕ
+called rightful first second w a = cond rightful (step 0 first second w a) (outcome a (refused Contradiction))
+
 -- what a command comes to; roomy: the third slice is long enough
 unfoldable pub stepped : (roomy : Bool) → Read (Worded ℕ) → Buffer → (first second : List ℕ) → Outcome ℕ
 stepped roomy unreadable b f s = outcome (account b f s) (refused Unreadable)
-stepped roomy (got w l) b f s = cond (sound b f s && roomy) (step 0 (length f) (length s) w (account b f s)) (outcome (account b f s) (refused Contradiction))
+stepped roomy (got w l) b f s = called (sound b f s && roomy) (length f) (length s) w (account b f s)
 
 -- b, f and s are the state and the slices before the step, r is what it gives back; n is the length of the third slice
 pub record Steps (script : List ℕ) (at n : ℕ) (b : Buffer) (f s : List ℕ) (r : Step) (f′ s′ : List ℕ) : Type 0 where

@@ -6,7 +6,9 @@ pub mod calls;
 pub mod digits;
 pub mod lines;
 pub mod reader;
+pub mod reports;
 pub mod runs;
+pub mod scripts;
 pub mod steps;
 pub mod words;
 
@@ -27,6 +29,18 @@ pub struct Order {
 pub enum Reading {
     Command(Order),
     Unreadable,
+}
+
+// What was read, and the place after it.
+pub struct Taken {
+    pub reading: Reading,
+    pub next: usize,
+}
+
+// A byte string and a place in it.
+pub struct Script<'a> {
+    pub bytes: &'a [u8],
+    pub place: usize,
 }
 
 // What follows a command byte: so many operands; or two, and as many glyph numbers as the second says.

@@ -6,7 +6,7 @@ ghost use lib.ListN.{length};
 ghost use lib.Dec.{leb};
 ghost use Rattle.records.specs.View.{seen};
 ghost use Rattle.lists.specs.Account.{spoiledPhase};
-ghost use Rattle.commands.specs.Lines.{answerLine, endOf, glyphLine, positionLine, Wrote, Prints, longest};
+ghost use Rattle.commands.specs.Lines.{answerLine, endLineOf, glyphLine, positionLine, Wrote, Prints, longest};
 use super::digits;
 use super::words;
 use lists::Buffer;
@@ -81,7 +81,7 @@ fn shown_idx(b: Buffer) -> usize
 
 fn put_counters(out: &mut [u8], at: usize, b: Buffer) -> usize
     requires { ⌜ at + longest ≤ length (now out) ⌝ }
-    ensures { λ r. ⌜ Wrote (endOf b) (now (out .entry)) at r (now (out .exit)) ⌝ }
+    ensures { λ r. ⌜ Wrote (endLineOf b) (now (out .entry)) at r (now (out .exit)) ⌝ }
     ensures { λ r. ⌜ r ≤ at + longest ⌝ }
 {
     let k = words::put_three(out, at, b'e', b'n', b'd');
@@ -115,7 +115,7 @@ pub fn answer_line(out: &mut [u8], at: usize, byte: u8, answer: Answer) -> usize
 
 // The line `end`.
 pub fn end_line(out: &mut [u8], at: usize, b: Buffer) -> usize
-    ensures { λ r. ⌜ Prints (endOf b) (now (out .entry)) at r (now (out .exit)) ⌝ }
+    ensures { λ r. ⌜ Prints (endLineOf b) (now (out .entry)) at r (now (out .exit)) ⌝ }
 {
     if has_room(out.len(), at) {
         return put_counters(out, at, b);

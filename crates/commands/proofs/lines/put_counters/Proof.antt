@@ -1,5 +1,5 @@
 use native.Mathlib.Omega.{arith}
-use Rattle.commands.specs.Lines.{ending, countersLine, endOf}
+use Rattle.commands.specs.Lines.{ending, countersLine, endLineOf}
 use Rattle.commands.proofs.Writes.{and-then}
 use borrow.Author.Needs.{needs}
 use Rattle.commands.proofs.lines.put_counters.Statement.{statement}
@@ -33,7 +33,7 @@ same-length : tie.Need-same-length
 same-length c = search needs
 
 returns : tie.Need-returns
-unfolding endOf countersLine ending
+unfolding endLineOf countersLine ending
 returns c =
     let p1 = c .before .before in
     let p2 = p1 .before .before .before .before in
