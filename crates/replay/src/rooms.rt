@@ -1,0 +1,31 @@
+// What the program holds, on its stack.
+ghost use mathlib.Core.Path.{_≡_};
+ghost use lib.ListN.{length};
+
+// 65,537 glyphs, one more than `enter` allows a short run.
+pub(crate) fn words() -> [u32; 327685]
+    ensures { λ r. ⌜ 327685 ≡ length r ⌝ }
+{
+    [0; 327685]
+}
+
+// The commands of a list.
+pub(crate) fn script() -> [u8; 16384]
+    ensures { λ r. ⌜ 16384 ≡ length r ⌝ }
+{
+    [0; 16384]
+}
+
+// Glyph numbers of one command: a word for every four bytes of the commands.
+pub(crate) fn numbers() -> [u32; 4096]
+    ensures { λ r. ⌜ 4096 ≡ length r ⌝ }
+{
+    [0; 4096]
+}
+
+// The text of a list.
+pub(crate) fn text() -> [u8; 262144]
+    ensures { λ r. ⌜ 262144 ≡ length r ⌝ }
+{
+    [0; 262144]
+}
