@@ -88,6 +88,7 @@ fn operands(r: &mut Random, byte: u8, t: &Theirs) -> Vec<u32> {
             words.extend((0..out).map(|_| glyph(r)));
             words
         }
+        0x10 if !b.have_output && r.below(2) == 0 => vec![0],
         0x10 => vec![place(r, if b.have_output { b.out_len + b.len - b.idx } else { b.len })],
         0x11 | 0x13 | 0x1C => {
             let (s, e) = range(r, cursor, b.len);
@@ -121,37 +122,97 @@ fn operands(r: &mut Random, byte: u8, t: &Theirs) -> Vec<u32> {
     }
 }
 
+const WITH_OUTPUT: [u32; 23] = [
+    0x07, 0x08, 0x09, 0x0A, 0x0B, 0x0C, 0x0C, 0x0D, 0x0E, 0x0E, 0x0F, 0x10, 0x10, 0x11, 0x12, 0x13, 0x14, 0x15, 0x16, 0x17, 0x18, 0x19, 0x04,
+];
+const PAST_START: [u32; 13] = [0x10, 0x10, 0x10, 0x03, 0x05, 0x07, 0x08, 0x09, 0x11, 0x13, 0x15, 0x16, 0x17];
+const WITH_POSITIONS: [u32; 27] = [
+    0x02, 0x03, 0x05, 0x06, 0x06, 0x06, 0x06, 0x07, 0x11, 0x13, 0x15, 0x16, 0x17, 0x1A, 0x1B, 0x1C, 0x1C, 0x1D, 0x1E, 0x1E, 0x1F, 0x21, 0x21, 0x22, 0x23,
+    0x24, 0x25,
+];
+const PLAIN: [u32; 30] = [
+    0x01, 0x02, 0x03, 0x03, 0x03, 0x05, 0x06, 0x05, 0x07, 0x09, 0x10, 0x11, 0x13, 0x15, 0x16, 0x17, 0x1A, 0x1B, 0x1C, 0x1D, 0x1E, 0x1F, 0x20, 0x20,
+    0x21, 0x22, 0x23, 0x24, 0x25, 0x26,
+];
+
 /// Which commands make sense now; others come too, for their refusals.
 fn byte(r: &mut Random, t: &Theirs) -> u8 {
     let b = &t.buffer;
     if t.spoiled {
         return if r.below(3) > 0 { 0x00 } else { r.below(39) as u8 };
     }
+    if r.below(100) == 0 {
+        return 0x00;
+    }
     if r.below(12) == 0 {
         return 1 + r.below(38) as u8;
     }
-    if b.have_output {
-        let some = [
-            0x07, 0x08, 0x09, 0x0A, 0x0B, 0x0C, 0x0C, 0x0D, 0x0E, 0x0E, 0x0F, 0x10, 0x10, 0x11, 0x12, 0x13, 0x14, 0x15, 0x16, 0x17, 0x18, 0x19, 0x04,
-        ];
-        return r.pick(&some) as u8;
+    let some: &[u32] = if b.have_output {
+        &WITH_OUTPUT
+    } else if b.idx > 0 {
+        &PAST_START
+    } else if b.len < 2 || (!b.have_positions && r.below(4) == 0) {
+        &[0x01, 0x01, 0x02, 0x03]
+    } else if b.have_positions {
+        &WITH_POSITIONS
+    } else {
+        &PLAIN
+    };
+    r.pick(some) as u8
+}
+
+/// A run of glyphs with variables; at times behind so many others that ranges pass 255.
+fn keyed(r: &mut Random, capacity: usize) -> Vec<Command> {
+    let new = Command::new;
+    let many = if capacity > 1000 && r.below(4) == 0 { 200 + r.below(500) as u32 } else { 0 };
+    let mut commands = Vec::new();
+    if many > 0 {
+        commands.extend([new(0x24, &[]), new(0x02, &[many]), new(0x1F, &[])]);
     }
-    if b.len < 2 || r.below(4) == 0 {
-        return r.pick(&[0x01, 0x01, 0x02, 0x03]) as u8;
+    commands.push(new(0x03, &[]));
+    for _ in 0..2 + r.below(8) {
+        commands.push(new(0x0C, &[glyph(r), mask(r), cluster(r), var(r), var(r)]));
     }
-    let some = [
-        0x01, 0x02, 0x03, 0x03, 0x03, 0x05, 0x06, 0x06, 0x07, 0x09, 0x10, 0x11, 0x13, 0x15, 0x16, 0x17, 0x1A, 0x1B, 0x1C, 0x1D, 0x1E, 0x1F, 0x20, 0x20,
-        0x21, 0x22, 0x23, 0x24, 0x25, 0x26,
-    ];
-    r.pick(&some) as u8
+    if many > 0 && r.below(2) == 0 {
+        commands.push(new(0x08, &[many]));
+    }
+    commands.push(new(0x04, &[]));
+    if r.below(3) == 0 {
+        commands.push(new(0x05, &[]));
+    }
+    commands
+}
+
+/// A short run whose `max_ops` a sort has brought down to 16, or a little more.
+fn nearly_drained(r: &mut Random) -> Vec<Command> {
+    let new = Command::new;
+    let mut commands = vec![new(0x24, &[]), new(0x03, &[]), new(0x0C, &[glyph(r), mask(r), cluster(r), 1, var(r)]), new(0x04, &[]), new(0x03, &[])];
+    commands.extend((1..35).map(|_| new(0x0A, &[])));
+    let run = 35 + 1820 - r.below(5) as u32;
+    commands.extend([new(0x07, &[]), new(0x04, &[]), new(0x02, &[run]), new(0x20, &[0, run, 0, 1]), new(0x1B, &[])]);
+    commands.extend([new(0x02, &[2 + r.below(12) as u32]), new(0x1F, &[])]);
+    commands
+}
+
+/// How a list starts.
+fn start(r: &mut Random, capacity: usize) -> Vec<Command> {
+    let mut commands = vec![Command::new(0, &[r.below(2) as u32 * r.below(5) as u32, r.below(4) as u32])];
+    match r.below(24) {
+        0 if capacity > 2000 => commands.extend(nearly_drained(r)),
+        1 => commands.extend((0..r.below(30)).map(|_| Command::new(0x26, &[]))),
+        2..=9 => commands.extend(keyed(r, capacity)),
+        _ => {}
+    }
+    commands
 }
 
 /// A list that is made as harfrust goes along with it.
 pub fn list(r: &mut Random, capacity: usize, length: usize) -> Vec<Command> {
     let mut theirs = Theirs::new(capacity, 0, 0);
-    let mut commands = vec![Command::new(0, &[r.below(4) as u32, r.below(4) as u32])];
-    let _ = theirs.call(&commands[0]);
-    // with output, glyphs with variables can be made: they become the run
+    let mut commands = start(r, capacity);
+    commands.iter().for_each(|c| {
+        let _ = theirs.call(c);
+    });
     for _ in 0..length {
         let byte = byte(r, &theirs);
         let command = Command { byte, operands: operands(r, byte, &theirs) };
@@ -180,22 +241,48 @@ fn shrink(mut commands: Vec<Command>, differ: &dyn Fn(&[Command]) -> bool) -> Ve
     commands
 }
 
+/// The exam program's capacity.
+pub const CAPACITY: usize = 2048;
+
+/// The list of a number, of those that a seed gives.
+pub fn seeded(seed: u64, number: u64, capacity: usize) -> Vec<Command> {
+    let mut r = Random::new(seed.wrapping_add(number));
+    let length = 1 + r.below(200);
+    list(&mut r, capacity, length)
+}
+
+/// The bytes of a list: now and then cut off, or with a byte behind them that is no command.
+pub fn bytes_of_list(commands: &[Command], number: u64) -> Vec<u8> {
+    let mut bytes = bytes_of(commands);
+    match number % 8 {
+        0 => bytes.truncate(bytes.len().saturating_sub(1 + (number / 8 % 8) as usize)),
+        1 => bytes.push(0x27 + (number / 8 % 217) as u8),
+        _ => {}
+    }
+    bytes
+}
+
 /// compare PROGRAM SEED COMMANDS: runs lists until that many commands agreed.
 pub fn compare(arguments: &[String]) {
     let [program, seed, goal, more @ ..] = arguments else { panic!("compare PROGRAM SEED COMMANDS [ARGUMENTS OF PROGRAM]") };
     let (seed, goal): (u64, usize) = (seed.parse().unwrap(), goal.parse().unwrap());
-    let capacity = 2048;
-    let differ = |l: &[Command]| theirs::run(capacity, &bytes_of(l)) != crate::ours::run(program, more, &bytes_of(l));
+    let both = |l: &[Command], number: u64| {
+        let bytes = bytes_of_list(l, number);
+        (theirs::run(CAPACITY, &bytes), crate::ours::run(program, more, &bytes))
+    };
     let (mut lists, mut commands) = (0, 0);
     while commands < goal {
-        let mut r = Random::new(seed.wrapping_add(lists));
-        let length = 1 + r.below(200);
-        let made = list(&mut r, capacity, length);
+        let made = seeded(seed, lists, CAPACITY);
+        let differ = |l: &[Command]| {
+            let (theirs, ours) = both(l, lists);
+            theirs != ours
+        };
         if differ(&made) {
             let small = shrink(made, &differ);
             println!("differ, list {lists} of seed {seed}:");
             small.iter().for_each(|c| println!("{}", c.text()));
-            println!("-- harfrust\n{}-- ours\n{}", theirs::run(capacity, &bytes_of(&small)), crate::ours::run(program, more, &bytes_of(&small)));
+            let (theirs, ours) = both(&small, lists);
+            println!("-- bytes {:02X?}\n-- harfrust\n{theirs}-- ours\n{ours}", bytes_of_list(&small, lists));
             std::process::exit(1);
         }
         lists += 1;
@@ -206,7 +293,7 @@ pub fn compare(arguments: &[String]) {
 
 /// run [CAPACITY]: what harfrust prints for the bytes on standard input.
 pub fn run_one(arguments: &[String]) {
-    let capacity = arguments.first().map_or(2048, |a| a.parse().unwrap());
+    let capacity = arguments.first().map_or(CAPACITY, |a| a.parse().unwrap());
     let mut bytes = Vec::new();
     std::io::stdin().read_to_end(&mut bytes).unwrap();
     print!("{}", theirs::run(capacity, &bytes));

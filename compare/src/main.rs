@@ -52,6 +52,7 @@ mod shape {
 }
 
 mod commands;
+mod coverage;
 mod lists;
 mod ours;
 mod play;
@@ -65,10 +66,11 @@ fn main() {
     match word.as_str() {
         "compare" => lists::compare(&rest),
         "vectors" => vectors::write(&rest),
+        "random" => vectors::write_random(&rest),
         "play" => play::play(),
         "run" => lists::run_one(&rest),
         _ => {
-            eprintln!("usage: compare PROGRAM SEED COMMANDS | vectors FILE | play | run [CAPACITY] < bytes");
+            eprintln!("usage: compare PROGRAM SEED COMMANDS | vectors FILE | random FILE SEED COMMANDS | play | run [CAPACITY] < bytes");
             std::process::exit(2);
         }
     }

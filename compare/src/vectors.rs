@@ -1,117 +1,229 @@
 //! Stored lists with what harfrust prints for them, for a replay without harfrust.
 //! Each is: capacity, number of command bytes, the bytes, number of text bytes, the text; numbers are four bytes, low byte first.
-use crate::commands::{bytes_of, Command, OPEN};
-use crate::lists::{list, Random};
-use crate::theirs::{self, Answer, Theirs};
-use std::collections::BTreeSet;
+use crate::commands::{bytes_of, Command, OPEN, OPERANDS};
+use crate::coverage::{self, Seen};
+use crate::lists::{bytes_of_list, list, seeded, Random, CAPACITY};
+use crate::theirs;
 use std::io::Write;
 
-/// What a list shows: answers, levels, wants and where the output lies, for each command.
-fn shown(capacity: usize, commands: &[Command]) -> BTreeSet<(u8, &'static str, u32)> {
-    let mut theirs = Theirs::new(capacity, 0, 0);
-    let (mut level, mut wants) = (0, 0);
-    let mut seen = BTreeSet::new();
-    for c in commands {
-        let before = (theirs.buffer.have_output, theirs.buffer.have_separate_output, theirs.buffer.have_positions);
-        let answer = theirs.call(c);
-        match answer {
-            Err(n) => {
-                seen.insert((c.byte, "no", n));
-                continue;
-            }
-            Ok(Answer::Value(v)) => seen.insert((c.byte, "value", v)),
-            Ok(Answer::Done) => seen.insert((c.byte, "ok", 0)),
-        };
-        if c.byte == 0 {
-            (level, wants) = (c.operands[0], c.operands[1]);
+type List = (usize, Vec<u8>);
+
+fn c(byte: u8, operands: &[u32]) -> Command {
+    Command::new(byte, operands)
+}
+
+fn pushes(clusters: &[u32]) -> Vec<Command> {
+    (0..).zip(clusters).map(|(i, &k)| c(1, &[60 + i, k])).collect()
+}
+
+fn stored(capacity: usize, parts: &[&[Command]]) -> List {
+    (capacity, bytes_of(&parts.concat()))
+}
+
+fn info(cluster: u32, var0: u32) -> Command {
+    c(0x0C, &[77, 5, cluster, var0, 2])
+}
+
+/// Every command with output, which lies in the run as long as no more was written than read.
+fn with_output() -> Vec<Command> {
+    let mut l = vec![c(0x07, &[]), c(0x0A, &[]), c(0x0B, &[90]), info(2, 1), c(0x0D, &[91]), c(0x0E, &[2, 1, 92]), c(0x0F, &[])];
+    l.extend([c(0x08, &[1]), c(0x09, &[]), c(0x10, &[1]), c(0x10, &[3]), c(0x24, &[]), c(0x25, &[]), c(0x26, &[])]);
+    l.extend([c(0x12, &[0, 2]), c(0x14, &[1, 3]), c(0x18, &[0, OPEN]), c(0x19, &[1, OPEN]), c(0x18, &[OPEN, OPEN])]);
+    l.extend([0x11, 0x13, 0x15, 0x16, 0x17].map(|b| c(b, &[9, 12])));
+    l
+}
+
+/// Every command accepted, at a level and wants; with output in the run, and then apart.
+fn tour(level: u32, wants: u32) -> List {
+    let fresh = [c(0x00, &[level, wants])];
+    let plain = [c(0x26, &[]), c(0x1A, &[7, 3, 1, 4]), c(0x1B, &[]), c(0x1C, &[1, 5]), c(0x1D, &[]), c(0x11, &[0, 3]), c(0x13, &[2, 5])];
+    let marks = [c(0x15, &[0, 4]), c(0x16, &[1, 5]), c(0x17, &[0, 6]), c(0x23, &[]), c(0x07, &[]), c(0x08, &[1]), c(0x09, &[]), c(0x10, &[0])];
+    let run = pushes(&[0, 1, 1, 2, 4, 3, 3, 5, 6, 6, 7, 8, 9, 9]);
+    let skips = vec![c(0x09, &[]); 3];
+    let keyed = [c(0x03, &[]), info(1, 3), info(0, 1), info(2, 0), c(0x08, &[4]), c(0x04, &[])];
+    let sorted = [c(0x20, &[0, 5, 0, 3]), c(0x22, &[0, 2]), c(0x1E, &[0, 3]), c(0x05, &[]), c(0x06, &[1, 2, OPEN, 3, 4]), c(0x1E, &[1, 2])];
+    let ended = [c(0x1B, &[]), c(0x21, &[0, 3, 1]), c(0x1F, &[]), c(0x02, &[4]), c(0x24, &[]), c(0x25, &[])];
+    let open = [c(0x03, &[])];
+    let sync = [c(0x04, &[])];
+    let apart = [c(0x0B, &[80]), c(0x0B, &[81])];
+    let refilled = pushes(&[10, 10, 11, 12]);
+    let (inside, outside) = (with_output(), with_output());
+    let passes = [&open[..], &skips, &inside, &sync, &refilled, &refilled, &open, &apart, &outside, &sync].concat();
+    stored(2048, &[&fresh, &run, &plain, &marks, &passes, &keyed, &sorted, &ended])
+}
+
+/// A list that is put aside with output in the run, and apart.
+fn put_aside() -> Vec<List> {
+    let run = pushes(&[0, 1, 2]);
+    let after = [c(0x00, &[2, 1]), c(0x01, &[9, 9])];
+    let open = [c(0x03, &[])];
+    vec![stored(2048, &[&run, &open, &[c(0x07, &[])], &after]), stored(2048, &[&run, &open, &[c(0x0B, &[8])], &after])]
+}
+
+/// Refusal 6: each command cut off after each number of operand bytes, and bytes that are no command.
+fn unreadable() -> Vec<List> {
+    let start = bytes_of(&pushes(&[3]));
+    let mut lists = Vec::new();
+    for byte in 0..39u8 {
+        let mut words = vec![1; OPERANDS[byte as usize]];
+        if byte == 0x0E {
+            words.extend([7, 8]);
+            words[1] = 2;
         }
-        seen.insert((c.byte, "level", level));
-        seen.insert((c.byte, "wants", wants));
-        seen.insert((c.byte, "place", u32::from(before.0) + 2 * u32::from(before.1) + 4 * u32::from(before.2)));
-        let b = &theirs.buffer;
-        seen.insert((c.byte, "after", u32::from(b.have_separate_output) + 2 * u32::from(b.successful) + 4 * u32::from(b.max_ops < 0)));
+        let whole = Command { byte, operands: words }.bytes();
+        lists.extend((1..whole.len()).map(|n| (2048, [&start, &whole[..n]].concat())));
     }
-    seen
+    lists.extend([0x27u8, 0x28, 0x40, 0x7F, 0x80, 0xA1, 0xFE, 0xFF].map(|b| (2048, [&start[..], &[b], &start].concat())));
+    lists
 }
 
-fn pushes(n: u32) -> Vec<Command> {
-    (0..n).map(|i| Command::new(1, &[60 + i, i])).collect()
+/// A size over `max_len`, which `enter` on an empty run makes 65,536.
+fn giving_up() -> Vec<List> {
+    let (grown, over) = ([c(0x24, &[]), c(0x02, &[65536])], c(0x02, &[65537]));
+    let plain = |call: Command| stored(65537, &[&grown, &[call, c(0x02, &[2]), c(0x03, &[]), c(0x10, &[1]), c(0x04, &[])]]);
+    let end = [c(0x26, &[]), c(0x10, &[0]), c(0x04, &[]), c(0x26, &[]), c(0x00, &[0, 0])];
+    let full = |before: &[Command], call: Command| stored(65537, &[&grown, &[c(0x03, &[])], before, &[call], &end]);
+    let written = [c(0x0B, &[9]), c(0x08, &[65535])];
+    let mut lists = vec![plain(c(0x01, &[1, 1])), plain(over)];
+    let calls = [c(0x07, &[]), c(0x08, &[1]), c(0x0A, &[]), c(0x0B, &[1]), info(1, 1), c(0x0D, &[1]), c(0x0E, &[1, 2, 7, 8]), c(0x10, &[65537])];
+    lists.extend(calls.into_iter().map(|call| full(&written, call)));
+    lists.push(full(&[c(0x0B, &[9])], c(0x10, &[0])));
+    lists.push(stored(65537, &[&grown, &[c(0x03, &[]), info(3, 1), c(0x04, &[]), c(0x01, &[5, 6])]]));
+    let lengths = [c(0x02, &[1_073_741_823]), c(0x02, &[1_073_741_824]), c(0x02, &[3]), c(0x03, &[]), c(0x10, &[0]), c(0x04, &[]), c(0x00, &[0, 4])];
+    lists.push(stored(2048, &[&lengths]));
+    lists.push(stored(0, &[&[c(0x01, &[1, 1]), c(0x03, &[]), c(0x0B, &[5]), c(0x04, &[])]]));
+    lists
 }
 
-/// Cases that chance does not find: giving up, and `max_ops` below 0 and back.
-fn rare() -> Vec<(usize, Vec<Command>)> {
-    let c = Command::new;
-    let mut drained = pushes(20);
-    drained.push(c(0x24, &[]));
-    drained.extend((0..3400).map(|_| c(0x1A, &[1, 1, 0, OPEN])));
-    let mut moved = drained.clone();
-    moved.extend([c(0x03, &[]), c(0x08, &[3]), c(0x10, &[1]), c(0x04, &[]), c(0x1B, &[]), c(0x00, &[1, 0])]);
-    // with output, a size over max_len: every writing call gives up, then `sync`
-    let full = |more: &[Command]| {
-        let mut l = vec![c(0x24, &[]), c(0x02, &[65536]), c(0x03, &[])];
-        l.extend_from_slice(more);
-        (65537, l)
-    };
-    let info = c(0x0C, &[77, 0, 5, 1, 2]);
-    let mut wrapped = vec![c(0x02, &[2048]), c(0x1F, &[])];
-    wrapped.push(c(0x24, &[]));
-    wrapped.extend((0..1500).map(|_| c(0x1A, &[1, 1, 0, OPEN])));
-    let mut cases = vec![
-        (2048, vec![c(0x02, &[1_073_741_824]), c(0x02, &[3]), c(0x03, &[]), c(0x10, &[0]), c(0x04, &[]), c(0x26, &[]), c(0x00, &[0, 4]), c(0x00, &[0, 3])]),
-        (2048, drained),
-        (2048, moved),
-        (2048, wrapped),
-        full(&[info.clone(), c(0x04, &[])]),
-        full(&[c(0x0B, &[9]), info.clone(), c(0x08, &[65536]), c(0x10, &[0]), c(0x04, &[])]),
-        full(&[c(0x08, &[65535]), c(0x0E, &[1, 3, 7, 8, 9]), c(0x0A, &[]), c(0x0D, &[4]), c(0x04, &[])]),
-        (0, vec![c(0x01, &[1, 1]), c(0x03, &[]), c(0x0B, &[5]), c(0x04, &[])]),
-        (3, [pushes(4), vec![c(0x03, &[]), info.clone(), info.clone(), info.clone(), info, c(0x10, &[0]), c(0x08, &[2]), c(0x04, &[])]].concat()),
-    ];
-    for level in 0..4 {
-        let wide = vec![c(0x00, &[level, 3]), c(0x02, &[300]), c(0x1F, &[]), c(0x11, &[0, 255]), c(0x11, &[0, 256]), c(0x15, &[0, 255]), c(0x15, &[0, 256]), c(0x13, &[10, 266]), c(0x23, &[])];
-        cases.push((2048, wide));
+/// `ones` glyphs with key 1 before `zeros` with key 0: a `sort` costs zeros × (ones + 1).
+fn unsorted(level: u32, ones: u32, zeros: u32) -> Vec<Command> {
+    let mut l = vec![c(0x00, &[level, 0]), c(0x24, &[]), c(0x03, &[]), info(5, 1), c(0x04, &[]), c(0x03, &[])];
+    l.extend((1..ones).map(|_| c(0x0A, &[])));
+    l.extend([c(0x07, &[]), c(0x04, &[]), c(0x02, &[ones + zeros])]);
+    l
+}
+
+fn sort(n: u32) -> Command {
+    c(0x20, &[0, n, 0, 1])
+}
+
+/// Brought to exactly 0 by a sort, `max_ops` falls below it at the next cost.
+fn drained() -> Vec<List> {
+    let base = |level: u32| [unsorted(level, 15, 4096), vec![sort(4111), c(0x02, &[6]), c(0x1F, &[])]].concat();
+    let plain = |level: u32, calls: &[Command]| stored(4200, &[&base(level), calls, &[c(0x1B, &[]), c(0x26, &[])]]);
+    let open = [c(0x03, &[]), c(0x08, &[3])];
+    let output = |calls: &[Command]| stored(4200, &[&base(0), &open, calls, &[c(0x10, &[1]), c(0x09, &[])]]);
+    let merged = [c(0x11, &[1, 3])];
+    let keyed = [c(0x03, &[]), info(9, 1), info(8, 1), c(0x04, &[])];
+    let mut lists: Vec<List> = [c(0x11, &[0, 3]), c(0x13, &[2, 6]), c(0x1A, &[1, 1, 0, OPEN])].into_iter().map(|call| plain(0, &[call])).collect();
+    lists.extend([c(0x0E, &[2, 1, 7]), c(0x10, &[5]), c(0x10, &[0]), c(0x12, &[0, 2]), c(0x14, &[1, 3])].map(|call| output(&[call])));
+    lists.push(stored(4200, &[&base(0), &[c(0x1B, &[]), c(0x03, &[]), c(0x0F, &[]), c(0x04, &[])]]));
+    for call in [c(0x20, &[0, 8, 0, 1]), c(0x22, &[0, 1]), c(0x21, &[0, 1, 1])] {
+        lists.push(plain(0, &[&keyed[..], &[call]].concat()));
     }
-    cases
+    lists.push(plain(1, &[&keyed[..], &[c(0x1E, &[0, 1])]].concat()));
+    lists.push(output(&[&merged[..], &[c(0x11, &[3, 6]), c(0x04, &[]), c(0x01, &[1, 1]), c(0x00, &[1, 0])]].concat()));
+    lists
 }
 
-/// vectors FILE: lists from seeds, each kept that shows something new, until nothing new has come for long.
+/// `max_ops` through the lowest number and back above 0: 33 sorts of 66,124,800 each.
+fn wrapped() -> List {
+    let mut l = unsorted(0, 1024, 64512);
+    for _ in 0..33 {
+        l.extend([sort(65536), c(0x1B, &[])]);
+    }
+    l.extend([c(0x02, &[3]), c(0x11, &[0, 3]), c(0x03, &[]), c(0x10, &[2]), c(0x08, &[2])]);
+    stored(65537, &[&l])
+}
+
+/// Ranges around the 255 that a flag form takes, and merges over more than that.
+fn wide(level: u32) -> List {
+    let start = [c(0x00, &[level, 3]), c(0x02, &[300]), c(0x1F, &[]), c(0x11, &[250, 252])];
+    let flags = [c(0x15, &[0, 255]), c(0x15, &[0, 256]), c(0x16, &[20, 275]), c(0x16, &[20, 276]), c(0x17, &[299, 10]), c(0x17, &[40, OPEN])];
+    let output = [c(0x03, &[]), c(0x08, &[280]), c(0x18, &[30, 285]), c(0x18, &[30, 286]), c(0x19, &[OPEN, 290]), c(0x19, &[270, OPEN]), c(0x12, &[4, 266])];
+    let end = [c(0x04, &[]), c(0x13, &[10, 266]), c(0x23, &[]), c(0x1C, &[0, 299]), c(0x02, &[40])];
+    stored(2048, &[&start, &flags, &output, &end])
+}
+
+/// Every id of a ligature; the serial goes around twice.
+fn ids() -> List {
+    stored(4, &[&vec![c(0x26, &[]); 600]])
+}
+
+fn made() -> Vec<List> {
+    let mut lists: Vec<List> = (0..20).map(|n| tour(n / 4, n % 4)).collect();
+    lists.extend(put_aside());
+    lists.extend((0..4).map(wide));
+    lists.extend(giving_up());
+    lists.extend(drained());
+    lists.push(wrapped());
+    lists.push(ids());
+    lists.extend(unreadable());
+    lists
+}
+
+/// A list from a seed, up to its last command that shows something new.
+fn grown(seed: u64, seen: &mut Seen) -> Option<List> {
+    let mut r = Random::new(seed);
+    let capacity = [2048, 2048, 8, 5, 3][r.below(5)];
+    let length = 4 + r.below(40);
+    let commands = list(&mut r, capacity, length);
+    let shown = coverage::of(capacity, &bytes_of(&commands));
+    let last = shown.iter().rposition(|(b, things)| things.iter().any(|&t| !seen.contains(&(*b, t))))?;
+    let kept = (capacity, bytes_of(&commands[..=last]));
+    note(&kept, seen);
+    Some(kept)
+}
+
+fn note(l: &List, seen: &mut Seen) -> usize {
+    let shown = coverage::of(l.0, &l.1);
+    seen.extend(shown.iter().flat_map(|(b, things)| things.iter().map(|&t| (*b, t))));
+    shown.len()
+}
+
+/// The bytes of a stored list.
+fn record(l: &List) -> Vec<u8> {
+    let text = theirs::run(l.0, &l.1);
+    let number = |n: usize| (n as u32).to_le_bytes();
+    [&number(l.0), &number(l.1.len())[..], &l.1, &number(text.len()), text.as_bytes()].concat()
+}
+
+/// vectors FILE: the lists above, then lists from seeds, each kept that shows something new, until nothing new has come for long.
 pub fn write(arguments: &[String]) {
-    let mut file = std::fs::File::create(&arguments[0]).expect("a file");
-    let (mut seen, mut kept, mut commands, mut idle) = (BTreeSet::new(), 0, 0, 0);
-    let mut put = |capacity: usize, l: &[Command]| {
-        let (bytes, text) = (bytes_of(l), theirs::run(capacity, &bytes_of(l)));
-        for part in [bytes.as_slice(), text.as_bytes()] {
-            if std::ptr::eq(part, bytes.as_slice()) {
-                file.write_all(&(capacity as u32).to_le_bytes()).unwrap();
-            }
-            file.write_all(&(part.len() as u32).to_le_bytes()).unwrap();
-            file.write_all(part).unwrap();
-        }
-        kept += 1;
-        commands += l.len();
-    };
-    for (capacity, l) in rare() {
-        seen.extend(shown(capacity, &l));
-        put(capacity, &l);
-    }
-    let mut seed = 0;
+    let mut seen = Seen::new();
+    let mut lists = made();
+    lists.iter().for_each(|l| {
+        note(l, &mut seen);
+    });
+    let by_hand = lists.len();
+    let (mut seed, mut idle) = (0, 0);
     while idle < 20_000 {
-        seed += 1;
-        idle += 1;
-        let mut r = Random::new(seed);
-        let capacity = [2048, 2048, 8, 5, 3][r.below(5)];
-        let length = 4 + r.below(40);
-        let l = list(&mut r, capacity, length);
-        let new = shown(capacity, &l);
-        if !new.is_subset(&seen) {
-            seen.extend(new);
-            put(capacity, &l);
+        (seed, idle) = (seed + 1, idle + 1);
+        if let Some(l) = grown(seed, &mut seen) {
+            lists.push(l);
             idle = 0;
         }
     }
-    println!("{kept} lists, {commands} commands, {} things shown", seen.len());
-    for byte in 0..39u8 {
-        let answers: Vec<String> = seen.iter().filter(|s| s.0 == byte && matches!(s.1, "ok" | "no" | "value")).map(|s| format!("{} {}", s.1, s.2)).collect();
-        println!("{byte:02X} {}", answers.join(", "));
+    coverage::check(&seen);
+    coverage::print(&seen);
+    let commands: usize = lists.iter().map(|l| note(l, &mut seen)).sum();
+    let bytes: Vec<u8> = lists.iter().flat_map(record).collect();
+    std::fs::File::create(&arguments[0]).and_then(|mut f| f.write_all(&bytes)).expect("a file");
+    println!("{} lists ({by_hand} by hand, the others from seeds up to {}), {commands} commands", lists.len(), seed - idle);
+    println!("{} things shown, {} bytes", seen.len(), bytes.len());
+}
+
+/// random FILE SEED COMMANDS: lists as those of `compare`, for the replay; most at smaller capacities.
+pub fn write_random(arguments: &[String]) {
+    let (seed, goal): (u64, usize) = (arguments[1].parse().unwrap(), arguments[2].parse().unwrap());
+    let mut file = std::io::BufWriter::new(std::fs::File::create(&arguments[0]).expect("a file"));
+    let (mut lists, mut commands) = (0, 0);
+    while commands < goal {
+        let capacity = [CAPACITY, 16, 8, 5, 3][lists % 5];
+        let made = seeded(seed, lists as u64, capacity);
+        file.write_all(&record(&(capacity, bytes_of_list(&made, lists as u64)))).unwrap();
+        lists += 1;
+        commands += made.len();
     }
+    println!("{lists} lists, {commands} commands");
 }
