@@ -2,7 +2,7 @@
 use mathlib.Core.{Path._≡_, Path.refl, List.List, List.[], List._∷_}
 use Prim.Native.Nat.{ℕ}
 use lib.ListN.{replicate}
-use Rattle.records.specs.{InputPlace, Glyphs.Glyph, Glyphs.blank, View.fives, View.glyphOf, View.glyphs}
+use Rattle.records.specs.{Glyphs.Glyph, Glyphs.blank, View.fives, View.glyphOf, View.glyphs}
 use Rattle.lists.specs.declared.{Buffer.Buffer}
 use Rattle.lists.specs.{Account.Account, Results.Result, Results.outcome, State.shown, State.goneOf, State.stateOf, State.accountOf, State.account, State.inOrder, State.sound, Cursor.clearOutput}
 use Rattle.lists.proofs.{Chains.At}

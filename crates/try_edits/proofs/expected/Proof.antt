@@ -1,7 +1,7 @@
 -- The account of the run is followed from call to call; each answer is computed from it.
 use borrow.Author.Needs.{needs}
 use borrow.Author.Tests.{eq-eqb}
-use mathlib.Core.{Path._≡_, Path.refl, Path.ap, Path._∙_}
+use mathlib.Core.{Path.refl, Path.ap, Path._∙_}
 use Rattle.lists.proofs.{Chains.At, Chains.answers, Chains.leaves}
 use Rattle.try_edits.specs.Codes.{codeOf}
 use Rattle.try_edits.proofs.Run.{zeros, a₁, a₂, a₃, a₄, a₅, at-start, few-code, past-code, full-code, over-code, none-code}

@@ -1,5 +1,5 @@
 use borrow.Author.Needs.{needs}
-use Prim.Native.Nat.{_≤_, _-_}
+use Prim.Native.Nat.{_-_}
 use native.Mathlib.Omega.{arith}
 use Rattle.try_edits.proofs.show.position_lines.Statement.{statement}
 use Rattle.try_edits.proofs.show.position_lines.Tie as tie
