@@ -10,16 +10,10 @@ use Rattle.lists.proofs.{Renaming.fresh-renamed, Accounts.sound-lent, Calls.jud
 use Rattle.commands.specs.{Calls.Worded, Calls.perform, Calls.step, Calls.run, Bytes.readUpTo, Bytes.runRead, Renaming.renamedOutcome, Renaming.reworded, Renaming.renamedBytes}
 use Rattle.commands.specs.{Steps.lentFor, Steps.called, Runs.lastOf, Runs.outcomes, Runs.Runs}
 use Rattle.commands.specs.Demand.{SameOutcome, Renamed, forget}
-use Rattle.commands.specs.Returned.{outcomeOf, SameLengths, Left, Called, LeftAt, Stepped}
+use Rattle.commands.specs.Returned.{outcomeOf, SameLengths, Left, leftOf, DirectRun, LeftAt, leftAt, StepRun}
 use Rattle.commands.specs.declared.Ran.{Ran}
 use Rattle.commands.proofs.{Renaming.step-rename, Renaming.refused-outcome, Bytes.string-rename, Bytes.renamed-length, RunLaws.goes-on, RunLaws.same-sound, RunLaws.ends}
 use Rattle.commands.proofs.Demand.{same-account, same-outcome, same-outcomes, demand-3, two-wordings, strings-alike}
-
-abbrev pub leftOf : Left → Outcome ℕ
-leftOf x = outcomeOf (x .reply) (x .first) (x .second)
-
-abbrev pub leftAt : LeftAt → Outcome ℕ
-leftAt x = outcomeOf (x .step .reply) (x .first) (x .second)
 
 -- ---- direct calls
 judged-step : (w : Worded ℕ) (b : Buffer) (f s : List ℕ) → sound b f s ≡ rightlyLent (length f) (length s) → judged (λ capacity a. perform 0 capacity (w .call) (w .glyphs) a) b f s ≡ step 0 (length f) (length s) w (account b f s)
@@ -34,7 +28,7 @@ judged-step w b f s h = by (sound b f s) refl
     by false e = judged-unsound _ b f s e ∙ ap (outcome (account b f s)) (sym (refuse-yes Contradiction act (not (rightlyLent (length f) (length s))) (rw (← h, e))))
 
 -- from a buffer whose counters do not contradict each other
-pub calls-run : (ws : List (Worded ℕ)) (xs : List Left) {p q : ℕ} (b : Buffer) (f s : List ℕ) → length f ≡ p → length s ≡ q → sound b f s ≡ rightlyLent p q → Called ws b f s xs → map leftOf xs ≡ run 0 p q ws (account b f s)
+pub calls-run : (ws : List (Worded ℕ)) (xs : List Left) {p q : ℕ} (b : Buffer) (f s : List ℕ) → length f ≡ p → length s ≡ q → sound b f s ≡ rightlyLent p q → DirectRun ws b f s xs → map leftOf xs ≡ run 0 p q ws (account b f s)
 unfolding run outcomeOf
 calls-run [] [] b f s ef es h c = refl
 calls-run [] (x ∷ xs) b f s ef es h c = absurd c
@@ -48,7 +42,7 @@ calls-run (w ∷ ws) (x ∷ xs) {p} {q} b f s ef es h c =
 -- Demand 3 of what direct calls return and leave: any functions that meet the calls' contracts, from fresh buffers in slices of the same lengths
 pub demand-3-calls : (f : ℕ → ℕ) → f 0 ≡ 0 → (level wants : ℕ) (ws : List (Worded ℕ)) (first second first′ second′ : List ℕ) → SameLengths first second first′ second′ → (xs ys : List Left)
     → let b = freshBuffer level wants in
-    Called ws b first second xs → Called (map (reworded f) ws) b first′ second′ ys
+    DirectRun ws b first second xs → DirectRun (map (reworded f) ws) b first′ second′ ys
     → Renamed f (account b first second) (map leftOf xs) (account b first′ second′) (map leftOf ys)
 demand-3-calls f z level wants ws first second first′ second′ e xs ys c d =
     let b = freshBuffer level wants in
@@ -58,7 +52,7 @@ demand-3-calls f z level wants ws first second first′ second′ e xs ys c d =
 
 -- two wordings of direct calls, on one buffer that does not contradict itself
 pub two-wordings-calls : (ws others : List (Worded ℕ)) (b : Buffer) (first second : List ℕ) → sound b first second ≡ true → (xs ys : List Left)
-    → map (reworded forget) ws ≡ map (reworded forget) others → Called ws b first second xs → Called others b first second ys
+    → map (reworded forget) ws ≡ map (reworded forget) others → DirectRun ws b first second xs → DirectRun others b first second ys
     → map (renamedOutcome forget) (map leftOf xs) ≡ map (renamedOutcome forget) (map leftOf ys)
 two-wordings-calls ws others b first second h xs ys e c d =
     let lent : sound b first second ≡ rightlyLent (length first) (length second) = h ∙ sym (sound-lent b first second h) in
@@ -67,7 +61,7 @@ two-wordings-calls ws others b first second h xs ys e c d =
     rw (one, other) (two-wordings (length first) (length second) ws others (account b first second) e)
 
 -- ---- bytes: the steps of a string from a place on
-pub steps-run : (t : List ℕ) (n : ℕ) (xs : List LeftAt) (m at : ℕ) (b : Buffer) (f s : List ℕ) → length t ≤ at + m → Stepped t n at b f s xs
+pub steps-run : (t : List ℕ) (n : ℕ) (xs : List LeftAt) (m at : ℕ) (b : Buffer) (f s : List ℕ) → length t ≤ at + m → StepRun t n at b f s xs
     → map leftAt xs ≡ runRead (called (sound b f s && lentFor t n) (length f) (length s)) (readUpTo m (drop at t)) (account b f s)
 steps-run t n [] m at b f s h c = sym (ends (called (sound b f s && lentFor t n) (length f) (length s)) m t at (account b f s) c)
 steps-run t n (x ∷ xs) zero at b f s h c = let here : at < length t = c .0 in absurd (omega arith)
@@ -107,7 +101,7 @@ module _ (f : ℕ → ℕ) (z : f 0 ≡ 0) where
     -- Demand 3 of what `step` returns and leaves, command by command: fresh buffers in slices of the same lengths, and a third slice of one length
     pub demand-3-steps : (xs ys : List LeftAt)
         → let b = freshBuffer level wants in
-        Stepped script n 0 b first second xs → Stepped (renamedBytes f script) n 0 b first′ second′ ys
+        StepRun script n 0 b first second xs → StepRun (renamedBytes f script) n 0 b first′ second′ ys
         → Renamed f (account b first second) (map leftAt xs) (account b first′ second′) (map leftAt ys)
     demand-3-steps xs ys c d =
         let b = freshBuffer level wants in
@@ -145,7 +139,7 @@ module _ (script other : List ℕ) (e : renamedBytes (λ w. 0) script ≡ rename
       let roomy : lentFor script n ≡ lentFor other n = rw long in
       rw roomy (strings-alike (called rightful (length first) (length second)) (called-rename (λ w. 0) refl rightful (length first) (length second)) script other (account b first second) e)
 
-  pub two-wordings-steps : (xs ys : List LeftAt) → Stepped script n 0 b first second xs → Stepped other n 0 b first second ys
+  pub two-wordings-steps : (xs ys : List LeftAt) → StepRun script n 0 b first second xs → StepRun other n 0 b first second ys
       → map (renamedOutcome forget) (map leftAt xs) ≡ map (renamedOutcome forget) (map leftAt ys)
   two-wordings-steps xs ys c d =
       let one : map leftAt xs ≡ outcomes script n b first second = steps-run script n xs (length script) 0 b first second (omega arith) c in

@@ -21,15 +21,18 @@ pub record Left : Type 0 where
   pub first : List ℕ
   pub second : List ℕ
 
+abbrev pub leftOf : Left → Outcome ℕ
+leftOf x = outcomeOf (x .reply) (x .first) (x .second)
+
 abbrev pub MeetsCall : Worded ℕ → Buffer → (f s : List ℕ) → Left → Type 0
 MeetsCall w b f s x = Meets (λ capacity a. perform 0 capacity (w .call) (w .glyphs) a) b f s (x .reply) (x .first) (x .second)
 
 -- the calls of a list, each by a function that meets its contract
-abbrev pub Called : List (Worded ℕ) → Buffer → (f s : List ℕ) → List Left → Type 0
-Called [] b f s [] = Unit {0}
-Called [] b f s (x ∷ xs) = ⊥
-Called (w ∷ ws) b f s [] = ⊥
-Called (w ∷ ws) b f s (x ∷ xs) = MeetsCall w b f s x × SameLengths f s (x .first) (x .second) × Called ws (x .reply .buffer) (x .first) (x .second) xs
+abbrev pub DirectRun : List (Worded ℕ) → Buffer → (f s : List ℕ) → List Left → Type 0
+DirectRun [] b f s [] = Unit {0}
+DirectRun [] b f s (x ∷ xs) = ⊥
+DirectRun (w ∷ ws) b f s [] = ⊥
+DirectRun (w ∷ ws) b f s (x ∷ xs) = MeetsCall w b f s x × SameLengths f s (x .first) (x .second) × DirectRun ws (x .reply .buffer) (x .first) (x .second) xs
 
 -- ---- bytes
 pub record LeftAt : Type 0 where
@@ -37,11 +40,14 @@ pub record LeftAt : Type 0 where
   pub first : List ℕ
   pub second : List ℕ
 
+abbrev pub leftAt : LeftAt → Outcome ℕ
+leftAt x = outcomeOf (x .step .reply) (x .first) (x .second)
+
 -- the commands of a string from a place on, each by `step`; n is the length of the third slice
-abbrev pub Stepped : List ℕ → (n at : ℕ) → Buffer → (f s : List ℕ) → List LeftAt → Type 0
-Stepped script n at b f s [] = length script ≤ at
-Stepped script n at b f s (x ∷ xs) =
+abbrev pub StepRun : List ℕ → (n at : ℕ) → Buffer → (f s : List ℕ) → List LeftAt → Type 0
+StepRun script n at b f s [] = length script ≤ at
+StepRun script n at b f s (x ∷ xs) =
     (at < length script)
     × Steps script at n b f s (x .step) (x .first) (x .second)
     × SameLengths f s (x .first) (x .second)
-    × Stepped script n (x .step .next) (x .step .reply .buffer) (x .first) (x .second) xs
+    × StepRun script n (x .step .next) (x .step .reply .buffer) (x .first) (x .second) xs
