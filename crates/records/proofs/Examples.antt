@@ -1,7 +1,8 @@
 -- Document 01's examples, as far as counters and single glyphs go.
-use mathlib.Core.{Path._≡_, Path.refl, Bool.true, Bool.false}
+use mathlib.Core.{Path._≡_, Path.refl, Bool.true, Bool.false, List.[], List._∷_}
 use Prim.Native.Nat.{ℕ}
 use Rattle.records.specs.declared.{Limits.Limits}
+use Rattle.records.specs.Bytes.{wordsOf}
 use Rattle.records.specs.Counters.{capacityOf, rightlyLent, freshLimits, costs, entered, left, ligSerial}
 use Rattle.records.specs.Glyphs.{Info, zeroPosition, setCluster}
 use Rattle.records.proofs.Executable.{executable}
@@ -40,3 +41,8 @@ clusters = (refl, refl)
 slices : (rightlyLent 10240 10240 ≡ true) × (capacityOf 10240 ≡ 2048) × (rightlyLent 10 15 ≡ false) × (rightlyLent 12 12 ≡ false) × (rightlyLent 5242880 5242880 ≡ true) × (rightlyLent 5242885 5242885 ≡ false)
 unfolding executable
 slices = (refl, refl, refl, refl, refl, refl)
+
+-- "four bytes, low byte first"; two bytes more are no word
+words : wordsOf (99 ∷ 0 ∷ 0 ∷ 0 ∷ 4 ∷ 3 ∷ 2 ∷ 1 ∷ 7 ∷ 8 ∷ []) ≡ 99 ∷ 16909060 ∷ []
+unfolding executable
+words = refl

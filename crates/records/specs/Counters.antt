@@ -1,18 +1,8 @@
--- The counters that no list shows (allocated size, max_len, max_ops, successful, serial), the numbers of the refusals, and the lengths of the lent slices.
+-- The counters that no list shows (allocated size, max_len, max_ops, successful, serial), and the lengths of the lent slices.
 use mathlib.Core.{Bool.Bool, Bool.true, Bool.false, Bool.cond, Bool.not, Bool._&&_}
 use Prim.Native.Nat.{ℕ, suc, _+_, _-_, _*_, _/_, _%_, max}
 use lib.{Dec.eqb, Dec.leb}
-use Rattle.records.specs.declared.{Limits.Limits, Refusal.Refusal}
-use Rattle.records.specs.declared.Refusal.the-variants.{Contradiction, WrongPhase, OutOfRange, BadOperand, OverCapacity, Unreadable}
-
--- "Turned-back calls"
-unfoldable pub refusalNumber : Refusal → ℕ
-refusalNumber Contradiction = 1  -- "slices unequal, not whole glyphs, too long; counters that contradict each other"
-refusalNumber WrongPhase = 2  -- "wrong phase"
-refusalNumber OutOfRange = 3  -- "a place or count outside the lists, or a start past its end in one list"
-refusalNumber BadOperand = 4  -- "slot over 1, wants over 3, fewer glyph numbers than stated"
-refusalNumber OverCapacity = 5  -- "needed size within `max_len`, over capacity"
-refusalNumber Unreadable = 6  -- "unknown command byte, operands cut off"
+use Rattle.records.specs.declared.{Limits.Limits}
 
 -- "two word slices of equal length, five words a glyph": the capacity of a slice of this length
 unfoldable pub capacityOf : ℕ → ℕ

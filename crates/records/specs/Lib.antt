@@ -1,3 +1,5 @@
+pub mod Answers
+pub mod Bytes
 pub mod Counters
 pub mod Glyphs
 pub mod Ranges

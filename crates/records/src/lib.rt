@@ -1,5 +1,6 @@
 // Records of the shaping buffer: the words of glyphs and positions, and the counters that no list shows.
 // Nobody above this crate knows where a word lies.
+pub mod bytes;
 pub mod counters;
 pub mod glyphs;
 pub mod positions;
@@ -45,7 +46,7 @@ pub struct Limits {
     pub serial: u8,
 }
 
-// Why a call is turned back. specs/Counters.antt has the number of each.
+// Why a call is turned back. specs/Answers.antt has the number of each.
 pub enum Refusal {
     Contradiction,
     WrongPhase,
