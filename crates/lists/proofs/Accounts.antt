@@ -8,7 +8,7 @@ use lib.{Dec.eqb, Dec.leb, Dec.ltb, ListN.length, ListN.take, Seq.length-slice, 
 use Rattle.records.specs.{Phase, Plain, Output, Positions, Spoiled, OverCapacity, Limits, Counters.capacityOf, Counters.rightlyLent, View.glyphs, View.placements}
 use Rattle.records.proofs.View.{length-glyphs, glyphs-same, placements-glyphs, length-paired, lent-same, lent-whole, lent-most, whole-same}
 use Rattle.lists.specs.declared.{Buffer.Buffer, Room.Room, Room.the-variants.Fits, Room.the-variants.GivesUp, Room.the-variants.Over}
-use Rattle.lists.specs.Account.{Account, outputPhase, positionsPhase, spoiledPhase, hasOutput, hasPositions, isSpoiled, len, idx, outLen, limiting, withLimits}
+use Rattle.lists.specs.Account.{Account, outputPhase, positionsPhase, spoiledPhase, hasOutput, hasPositions, isSpoiled, len, idx, outLen, limiting, withLimits, readLevel}
 use Rattle.lists.specs.State.{shown, goneOf, stateOf, accountOf, inOrder, sound, Held, roomFor}
 use Rattle.lists.specs.Results.{Result, refused, needing}
 use Rattle.lists.specs.States.{withLimitsOf}
@@ -89,7 +89,7 @@ module _ (b : Buffer) (run other : List ℕ) where
   unfolding accountOf stateOf
   limits-of = refl
 
-  pub level-of : (accountOf b run other) .state .level ≡ b .level
+  pub level-of : (accountOf b run other) .state .level ≡ readLevel (b .level)
   unfolding accountOf stateOf
   level-of = refl
 

@@ -2,7 +2,7 @@
 use mathlib.Core.{Path._≡_, Path.refl, Path.sym, Path.ap, Path._∙_, Bool.Bool, Bool.true, Bool.false, Bool.cond, Bool.not, Bool.false≢true, List.List}
 use Prim.Native.Nat.{ℕ}
 use lib.{ListN.length}
-use Rattle.records.specs.{Refusal, Contradiction, Done, Value, No, Counters.capacityOf, Counters.rightlyLent, View.wordsFrom}
+use Rattle.records.specs.{Refusal, Contradiction, Done, Value, No, Answers.no, Answers.refusalNumber, Counters.capacityOf, Counters.rightlyLent, View.wordsFrom}
 use Rattle.records.proofs.View.{lent-same}
 use Rattle.lists.specs.declared.{Buffer.Buffer, Reply.Reply}
 use Rattle.lists.specs.Account.{Account}
@@ -57,7 +57,7 @@ pub judged-unsound : (call : ℕ → Account ℕ → Result ℕ) (b : Buffer) (f
 unfolding judged refuse_when_else_
 judged-unsound call b f s h = rw h
 
-pub outcome-refused : {G : Type 0} (a : Account G) (why : Refusal) → outcome a (refused why) ≡ record { answer = No why; after = a }
+pub outcome-refused : {G : Type 0} (a : Account G) (why : Refusal) → outcome a (refused why) ≡ record { answer = no (refusalNumber why); after = a }
 unfolding outcome
 outcome-refused a why = refl
 

@@ -2,13 +2,13 @@
 use mathlib.Core.{Path._≡_, Path.refl, Path.sym, Path.ap, Path._∙_, Bool.Bool, Bool.true, Bool.false, List.List}
 use Prim.Native.Nat.{ℕ}
 use lib.{ListN.length}
-use Rattle.records.specs.{Contradiction, No, Counters.capacityOf}
+use Rattle.records.specs.{Contradiction, No, Answers.said, Counters.capacityOf}
 use Rattle.lists.specs.declared.{Buffer.Buffer, Reply.Reply}
 use Rattle.lists.specs.Account.{Account}
 use Rattle.lists.specs.Results.{Result, refused, Outcome, outcome}
 use Rattle.lists.specs.State.{account, sound}
 use Rattle.lists.specs.States.{reply}
-use Rattle.lists.specs.Contract.{judged, isNo, Meets}
+use Rattle.lists.specs.Contract.{outcomeOf, judged, isNo, Meets}
 use Rattle.lists.proofs.Calls.{judged-sound, judged-unsound, outcome-refused}
 
 -- the account of a buffer that does not contradict itself, in slices of a capacity
@@ -18,10 +18,10 @@ pub record At (capacity : ℕ) (a : Account ℕ) (b : Buffer) (f s : List ℕ) :
   pub room : capacityOf (length f) ≡ capacity
 
 module _ {call : ℕ → Account ℕ → Result ℕ} {capacity : ℕ} {a : Account ℕ} {b : Buffer} {f s : List ℕ} {r : Reply} {f′ s′ : List ℕ} (m : Meets call b f s r f′ s′) (at : At capacity a b f s) where
-  comes-to : record { answer = r .answer; after = account (r .buffer) f′ s′ } ≡ outcome a (call capacity a)
+  comes-to : outcomeOf r f′ s′ ≡ outcome a (call capacity a)
   comes-to = m .is ∙ judged-sound call b f s (at .fit) ∙ rw (at .is, at .room)
 
-  pub answers : r .answer ≡ outcome a (call capacity a) .answer
+  pub answers : said (r .answer) ≡ outcome a (call capacity a) .answer
   answers = ap (λ (o : Outcome ℕ). o .answer) comes-to
 
   pub leaves : length f′ ≡ length f → At capacity (outcome a (call capacity a) .after) (r .buffer) f′ s′

@@ -4,10 +4,10 @@ use Prim.Native.Nat.{ℕ, _+_, _-_, _≤_, _<_}
 use native.Mathlib.Omega.{arith}
 use borrow.Author.Tests.{le-ltb, lt-ltb}
 use lib.{Dec.ltb, ListN.length, ListN.take, ListN.drop, Seq.take-nil, Seq.drop-nil}
-use Rattle.records.specs.{Plain, Spoiled, WrongPhase, OutOfRange, OverCapacity, Done, Value, No, Limits, Counters.capacityOf, Counters.isNegative, Counters.costs, Counters.failed, Counters.grown, Glyphs.Glyph, View.glyphs, View.wordsFrom}
+use Rattle.records.specs.{Plain, Spoiled, WrongPhase, OutOfRange, OverCapacity, Done, Value, No, Limits, Answers.said, Counters.capacityOf, Counters.isNegative, Counters.costs, Counters.failed, Counters.grown, Glyphs.Glyph, View.glyphs, View.wordsFrom}
 use Rattle.records.proofs.View.{length-glyphs}
 use Rattle.lists.specs.declared.{Buffer.Buffer, Reply.Reply, Room.Room, Room.the-variants.Fits, Room.the-variants.GivesUp, Room.the-variants.Over}
-use Rattle.lists.specs.Account.{Account, inPhase, withGone, withLimits, outputPhase, spoiledPhase, hasOutput, isSpoiled, len, idx, outLen, limiting, paying, failing, sized}
+use Rattle.lists.specs.Account.{Account, inPhase, withGone, withLimits, outputPhase, spoiledPhase, hasOutput, isSpoiled, len, idx, outLen, limiting, paying, failing, sized, readLevel}
 use Rattle.lists.specs.Results.{Result, refused, accepted, answered, outcome, refuse_when_else_, needing}
 use Rattle.lists.specs.State.{shown, goneOf, stateOf, accountOf, Held, roomFor}
 use Rattle.lists.specs.States.{reply, withLimitsOf, atPlaces, swappedBuffer, spoiledBuffer}
@@ -250,7 +250,7 @@ module _ (b : Buffer) (run other : List ℕ) (v : Held b run other) where
       let e : b .len .0 ≡ len (accountOf b run other) = sym (len-of b run other v (output-clean (b .phase) o)) in
       let p : _≡_ {A = List (Glyph ℕ)} (drop (b .len .0) []) [] = drop-nil (b .len .0) in
       let q : _≡_ {A = List (Glyph ℕ)} (take (b .len .0) []) [] = take-nil (b .len .0) in
-      λ k. record { done = []; passed = p k; rest = q k; state = record { phase = Spoiled; gone = e k; limits = b .limits; level = b .level; wants = b .wants } }
+      λ k. record { done = []; passed = p k; rest = q k; state = record { phase = Spoiled; gone = e k; limits = b .limits; level = readLevel (b .level); wants = b .wants } }
 
   held-spoiled : Held (spoiledBuffer b) run other
   unfolding spoiledBuffer
@@ -270,7 +270,7 @@ unfolding accountIn accountOf stateOf goneOf shown swappedBuffer swapped inPhase
 swapped-of x f run other e = by-side (f .«have_separate_output») x (f .swapped) e
   where
     ran : List (Glyph ℕ) → Account ℕ
-    ran l = record { done = []; passed = []; rest = take (f .«out_len» .0) l; state = record { phase = Plain; gone = 0; limits = f .limits; level = f .level; wants = f .wants } }
+    ran l = record { done = []; passed = []; rest = take (f .«out_len» .0) l; state = record { phase = Plain; gone = 0; limits = f .limits; level = readLevel (f .level); wants = f .wants } }
 
     by-side : (s y z : Bool) → z ≡ y → cond (exchanged y (cond s (not z) z)) (ran (glyphs other)) (ran (glyphs run)) ≡ ran (cond s (glyphs other) (glyphs run))
     by-side true true true k = refl
@@ -517,7 +517,7 @@ module _ (k : ℕ) {g f : Buffer} {run other run′ : List ℕ} (v : Held g run 
       ∙ (goes-size n (accountOf f run′ other) (accountOf f run′ other)
       ∙ (ap (λ (l : Limits). l .allocated) (limits-of f run′ other) ∙ ap (λ (l : Limits). l .allocated) (w .limits)))) in
       record {
-        is = ap (λ (x : Bool). record { answer = r .answer; after = accountIn x (r .buffer) run″ other″ }) (sym (w .side ∙ side))
+        is = ap (λ (x : Bool). record { answer = said (r .answer); after = accountIn x (r .buffer) run″ other″ }) (sym (w .side ∙ side))
             ∙ (m .is ∙ (goes-accepts n (accountOf f run′ other) (accountOf f run′ other) (accountOf b run other) ∙ ap (outcome (accountOf b run other)) (sym c)));
         stays = λ q. absurd (false≢true (sym (ap (λ o. isNo (o .answer)) (m .is) ∙ goes-no n (accountOf f run′ other) (accountOf f run′ other)) ∙ q));
         run-beyond = m .run-beyond ∙ subst (λ (j : ℕ). wordsFrom j run′ ≡ wordsFrom j run) (sym size) (w .run-beyond);

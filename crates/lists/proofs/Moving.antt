@@ -8,7 +8,7 @@ use Rattle.records.specs.{Phase, Plain, Output, Positions, Spoiled, Position, G
 use Rattle.records.proofs.View.{glyphs-same, whole-same, beyond-placements, paired-zero, paired-plain}
 use Rattle.records.proofs.Renaming.{take-map, drop-map}
 use Rattle.lists.specs.declared.{Buffer.Buffer}
-use Rattle.lists.specs.Account.{outputPhase, spoiledPhase, withGone, inPhase}
+use Rattle.lists.specs.Account.{outputPhase, spoiledPhase, withGone, inPhase, readLevel}
 use Rattle.lists.specs.Contract.{Moves}
 use Rattle.lists.specs.Copied.{copied}
 use Rattle.lists.specs.Cursor.{moved, growing, back, positioned, withoutPositions}
@@ -365,7 +365,7 @@ module _ (b : Buffer) (run other : List ℕ) (v : Placeable b run other) where
           done = done k;
           passed = passed k;
           rest = rest k;
-          state = record { phase = Positions; gone = gone k; limits = b .limits; level = b .level; wants = b .wants };
+          state = record { phase = Positions; gone = gone k; limits = b .limits; level = readLevel (b .level); wants = b .wants };
         }
 
     pub place-moves : {r : Buffer} → length other′ ≡ length other → r ≡ positionedBuffer b → Moves positioned b run other r run other′

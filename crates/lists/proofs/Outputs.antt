@@ -5,12 +5,12 @@ use lib.{ListN.length, ListN.take, ListN.drop, Seq.slice, Seq.slice-empty}
 use Rattle.records.specs.{Phase, Plain, Output, Positions, Spoiled, Glyphs.Glyph, View.glyphs, View.wordsFrom, View.Whole}
 use Rattle.records.proofs.View.{beyond-glyphs}
 use Rattle.lists.specs.declared.{Buffer.Buffer}
-use Rattle.lists.specs.Account.{Account, outputPhase, spoiledPhase}
+use Rattle.lists.specs.Account.{Account, outputPhase, spoiledPhase, readLevel}
 use Rattle.lists.specs.State.{shown, goneOf, stateOf, accountOf}
 use Rattle.lists.specs.States.{atPlaces}
 
 abbrev pub output : Buffer → ℕ → (done rest : List (Glyph ℕ)) → Account ℕ
-output b i D R = record { done = D; passed = []; rest = R; state = record { phase = b .phase; gone = i; limits = b .limits; level = b .level; wants = b .wants } }
+output b i D R = record { done = D; passed = []; rest = R; state = record { phase = b .phase; gone = i; limits = b .limits; level = readLevel (b .level); wants = b .wants } }
 
 pub output-cong : (b : Buffer) {i j : ℕ} {D E R S : List (Glyph ℕ)} → i ≡ j → D ≡ E → R ≡ S → output b i D R ≡ output b j E S
 output-cong b ei ed er = λ k. output b (ei k) (ed k) (er k)
@@ -58,7 +58,7 @@ output-places b i l o run other h =
       done = take o (cond (b .«have_separate_output») (glyphs other) (glyphs run));
       passed = none k;
       rest = rest k;
-      state = record { phase = b .phase; gone = g k; limits = b .limits; level = b .level; wants = b .wants };
+      state = record { phase = b .phase; gone = g k; limits = b .limits; level = readLevel (b .level); wants = b .wants };
     }
 
 pub output-account : (b : Buffer) (run other : List ℕ) → outputPhase (b .phase) ≡ true

@@ -1,10 +1,11 @@
 -- Renaming an account: the calls of this crate commute with it. Each law takes the renaming outwards.
 use mathlib.Core.{Path._≡_, Path.refl, Bool.Bool, Bool.true, Bool.false, Bool.cond, List.List, List.map}
 use Prim.Native.Nat.{ℕ}
-use Rattle.records.specs.{Refusal, Limits, Glyphs.Glyph, Glyphs.rename}
+use lib.Dec.{ltb}
+use Rattle.records.specs.{Refusal, BadOperand, Limits, Glyphs.Glyph, Glyphs.rename}
 use Rattle.records.proofs.Renaming as records
 use Rattle.lists.specs.Account.{Account, hasOutput, hasPositions, isSpoiled, input, len, idx, outLen, positions, freshAccount, limiting, paying, failing, sized, withInput, withDone, withRest, renamed}
-use Rattle.lists.specs.Results.{Result, refused, accepted, answered, refuse_when_else_, needing, renamedResult}
+use Rattle.lists.specs.Results.{Result, refused, accepted, answered, outcome, refuse_when_else_, needing, renamedResult}
 use Rattle.lists.specs.Cursor.{fresh, enter, leave, allocateLigId, moved, dropping, back, cursorAt, growing, swapped, spoiling, withoutPositions, opened, positioned, clearOutput, clearPositions, nextGlyphs, skipGlyph, sync, paysFor, forward, goesBack, backward, moveTo}
 
 module _ {G H : Type 0} (f : G → H) where
@@ -172,6 +173,15 @@ module _ {G H : Type 0} (f : G → H) where
   needing-rename capacity n a x y = simp (state-rename, refused-rename, choice-rename)
 
 pub ruleset renaming = (records.renaming, done-rename, passed-rename, rest-rename, state-rename, hasOutput-rename, hasPositions-rename, isSpoiled-rename, input-rename, len-rename, idx-rename, outLen-rename, limiting-rename, paying-rename, failing-rename, sized-rename, moved-rename, dropping-rename, cursorAt-rename, withInput-rename, withDone-rename, withRest-rename, cond-rename, choice-rename, accepted-rename, answered-rename, refuse-rename, needing-rename)
+
+-- nor does the account that the first buffer begins with
+pub begun-renamed : {G H : Type 0} (f : G → H) (level wants : ℕ) → renamed f (outcome (freshAccount level 0) (fresh level wants (freshAccount level 0)) .after) ≡ outcome (freshAccount level 0) (fresh level wants (freshAccount level 0)) .after
+unfolding fresh refuse_when_else_ outcome
+begun-renamed f level wants = by (ltb 3 wants)
+  where
+    by : (x : Bool) → renamed f (outcome (freshAccount level 0) (cond x (refused BadOperand) (accepted (freshAccount level wants))) .after) ≡ outcome (freshAccount level 0) (cond x (refused BadOperand) (accepted (freshAccount level wants))) .after
+    by true = fresh-renamed f level 0
+    by false = fresh-renamed f level wants
 
 -- ---- calls
 module _ {G H : Type 0} (f : G → H) (a : Account G) where

@@ -4,16 +4,16 @@ use Prim.Native.Nat.{ℕ, _+_, _-_, _%_, _≤_, _<_}
 use native.Mathlib.Omega.{arith}
 use borrow.Author.Tests.{le-leb, lt-leb, le-ltb, lt-ltb}
 use lib.{Dec.leb, Dec.ltb, ListN.length, ListN.take, ListN.drop, ListN.take-append-drop, Seq.slice, Seq.slice-empty, Seq.take-take, Seq.drop-drop}
-use Rattle.records.specs.{Phase, Plain, Output, Positions, Spoiled, Refusal, WrongPhase, OutOfRange, BadOperand, Done, Value, Limits, Counters.capacityOf, Counters.rightlyLent, Counters.freshLimits, Counters.limited, Counters.entered, Counters.left, Counters.ligSerial, Counters.withSerial, Glyphs.Glyph, Glyphs.change, Glyphs.withPosition, Glyphs.zeroPosition, View.glyphs, View.placements}
+use Rattle.records.specs.{Phase, Plain, Output, Positions, Spoiled, Refusal, WrongPhase, OutOfRange, BadOperand, Done, Value, No, Limits, Answers.no, Answers.refusalNumber, Counters.capacityOf, Counters.rightlyLent, Counters.freshLimits, Counters.limited, Counters.entered, Counters.left, Counters.ligSerial, Counters.withSerial, Glyphs.Glyph, Glyphs.change, Glyphs.withPosition, Glyphs.zeroPosition, View.glyphs, View.placements}
 use Rattle.records.proofs.View.{glyphs-plain, paired-plain}
 use Rattle.records.proofs.Renaming.{take-map}
 use Rattle.lists.specs.declared.{Buffer.Buffer, Reply.Reply}
-use Rattle.lists.specs.Account.{Account, inPhase, withGone, outputPhase, spoiledPhase, hasOutput, isSpoiled, input, len, idx, freshAccount, limiting}
-use Rattle.lists.specs.Results.{Result, refused, accepted, answered, refuse_when_else_}
+use Rattle.lists.specs.Account.{Account, inPhase, withGone, outputPhase, spoiledPhase, hasOutput, isSpoiled, input, len, idx, freshAccount, limiting, readLevel}
+use Rattle.lists.specs.Results.{Result, Outcome, refused, accepted, answered, outcome, refuse_when_else_}
 use Rattle.lists.specs.Cursor.{fresh, enter, leave, allocateLigId, dropping, cursorAt, withoutPositions, opened, clearOutput, skipGlyph}
 use Rattle.lists.specs.State.{shown, goneOf, stateOf, accountOf, account, inOrder, sound, Held}
 use Rattle.lists.specs.States.{withLimitsOf, atPlaces, freshBuffer, openedBuffer, swappedBuffer, reply}
-use Rattle.lists.specs.Contract.{Meets}
+use Rattle.lists.specs.Contract.{Meets, Begins}
 use Rattle.lists.proofs.Accounts.{output-of, spoiled-of, limited-of, rest-of, idx-of, len-of, held-turned, sound-held}
 use Rattle.lists.proofs.Outputs.{gone-output, gone-without}
 use Rattle.lists.proofs.Calls.{shell-accepted, shell-answered}
@@ -146,15 +146,17 @@ module _ {b : Buffer} {f s : List ℕ} {r : Reply} (h : sound b f s ≡ true) (g
       shell-answered h _ _ (lig-is b f s v g) (er ∙ (ap (λ (x : Buffer). reply x (Value (n % 8))) (eb ∙ ap (λ (x : Limits). withLimitsOf x b) el) ∙ ap (λ (k : ℕ). reply (withLimitsOf (withSerial k (b .limits)) b) (Value (k % 8))) en)) (held-limits b f s _ refl v)
 
 -- ---- 00
-pub low-level : (level k : ℕ) → level ≤ 3 → k ≡ level → k ≡ cond (leb level 3) level 0
-low-level level k h e = rw (le-leb level 3 h) e
+pub low-level : (level : ℕ) → level ≤ 3 → level ≡ readLevel level
+unfolding readLevel
+low-level level h = rw (le-leb level 3 h)
 
-pub high-level : (level k : ℕ) → 3 < level → k ≡ 0 → k ≡ cond (leb level 3) level 0
-high-level level k h e = rw (lt-leb level 3 h) e
+pub high-level : (level : ℕ) → 3 < level → 0 ≡ readLevel level
+unfolding readLevel
+high-level level h = rw (lt-leb level 3 h)
 
-pub fresh-is : (level wants k : ℕ) (l : Limits) → l ≡ freshLimits → k ≡ cond (leb level 3) level 0 → record { idx = record { 0 = 0 }; len = record { 0 = 0 }; «out_len» = record { 0 = 0 }; phase = Plain; limits = l; level = k; wants = wants; swapped = false; «have_separate_output» = false } ≡ freshBuffer level wants
+pub fresh-is : (level wants : ℕ) (l : Limits) → l ≡ freshLimits → record { idx = record { 0 = 0 }; len = record { 0 = 0 }; «out_len» = record { 0 = 0 }; phase = Plain; limits = l; level = level; wants = wants; swapped = false; «have_separate_output» = false } ≡ freshBuffer level wants
 unfolding freshBuffer
-fresh-is level wants k l el ek = rw (el, ek)
+fresh-is level wants l e = rw e
 
 pub fresh-refused : (level wants : ℕ) (a : Account ℕ) → 3 < wants → fresh level wants a ≡ refused BadOperand
 unfolding fresh
@@ -191,6 +193,27 @@ module _ (level wants : ℕ) where
   unfolding fresh
   fresh-meets {b} {b′} {f} {s} h w eb er =
       shell-accepted h (freshBuffer level wants) (refuse-no BadOperand _ (ltb 3 wants) (le-ltb 3 wants w) ∙ ap accepted (fresh-account f s)) (er ∙ ap (λ (x : Buffer). reply x Done) eb) (fresh-held b f s (sound-held b f s h))
+
+-- the first buffer
+module _ (level wants : ℕ) {b : Buffer} {r : Reply} where
+  pub begins : wants ≤ 3 → b ≡ freshBuffer level wants → r ≡ reply b Done → Begins level wants r
+  unfolding fresh outcome
+  begins w eb er = rw (er, eb) (record {
+    is = λ f s. sym (ap (outcome (freshAccount level 0)) (refuse-no BadOperand _ (ltb 3 wants) (le-ltb 3 wants w) ∙ ap accepted (fresh-account level wants f s)));
+    is-sound = fresh-sound level wants;
+  })
+
+  pub begins-refused : 3 < wants → b ≡ freshBuffer level 0 → r ≡ reply b (No BadOperand) → Begins level wants r
+  unfolding outcome
+  begins-refused w eb er = rw (er, eb) (record {
+    is = λ f s. sym (ap (outcome (freshAccount level 0)) (fresh-refused level wants _ w) ∙ ap (λ (a : Account ℕ). record { answer = no (refusalNumber BadOperand); after = a }) (fresh-account level 0 f s));
+    is-sound = fresh-sound level 0;
+  })
+
+-- and its account
+pub begun-fresh : {level wants : ℕ} {r : Reply} → wants ≤ 3 → Begins level wants r → (f s : List ℕ) → account (r .buffer) f s ≡ freshAccount level wants
+unfolding fresh outcome
+begun-fresh {level} {wants} w v f s = ap (λ (o : Outcome ℕ). o .after) (v .is f s ∙ ap (outcome (freshAccount level 0)) (refuse-no BadOperand _ (ltb 3 wants) (le-ltb 3 wants w)))
 
 -- the output as the run
 pub swapped-is : (b : Buffer) (x : Bool) → x ≡ cond (b .«have_separate_output») (not (b .swapped)) (b .swapped) → record { idx = record { 0 = 0 }; len = record { 0 = b .«out_len» .0 }; «out_len» = record { 0 = 0 }; phase = Plain; limits = b .limits; level = b .level; wants = b .wants; swapped = x; «have_separate_output» = false } ≡ swappedBuffer b
@@ -231,13 +254,13 @@ module _ (b : Buffer) (run other : List ℕ) (v : Held b run other) where
         refl
         (ap (λ (n : ℕ). slice n i l) e ∙ (sym (take-take i (b .len .0) l h) ∙ ap (take i) (sym input-of)))
         (ap (drop i) (sym input-of))
-        (ap (λ (n : ℕ). record { phase = b .phase; gone = n; limits = b .limits; level = b .level; wants = b .wants }) (e ∙ sym (gone-without b o p)))
+        (ap (λ (n : ℕ). record { phase = b .phase; gone = n; limits = b .limits; level = readLevel (b .level); wants = b .wants }) (e ∙ sym (gone-without b o p)))
 
     opened-of : opened (accountOf b run other) ≡ accountOf (openedBuffer b) run other
     unfolding accountOf stateOf goneOf shown openedBuffer opened withoutPositions inPhase withGone
     opened-of =
         let w : List (Glyph ℕ) → List (Glyph ℕ) = map (change (withPosition zeroPosition)) in
-        ap (λ (l : List (Glyph ℕ)). record { done = []; passed = []; rest = l; state = record { phase = Output; gone = 0; limits = b .limits; level = b .level; wants = b .wants } })
+        ap (λ (l : List (Glyph ℕ)). record { done = []; passed = []; rest = l; state = record { phase = Output; gone = 0; limits = b .limits; level = readLevel (b .level); wants = b .wants } })
         (ap w input-of ∙ (sym (take-map (change (withPosition zeroPosition)) (b .len .0) (shown (b .phase) run other)) ∙ ap (take (b .len .0)) (shown-plain (b .phase) run other p)))
 
   -- n glyphs are dropped, with output
@@ -250,7 +273,7 @@ module _ (b : Buffer) (run other : List ℕ) (v : Held b run other) where
       refl
       (ap (λ (k : ℕ). slice k (b .idx .0 + n) l) (gone-output b′ o) ∙ (slice-empty (b .idx .0 + n) l ∙ sym (ap (λ (k : ℕ). slice k (b .idx .0) l) (gone-output b o) ∙ slice-empty (b .idx .0) l)))
       (sym (drop-drop n (b .idx .0) (take (b .len .0) l)))
-      (ap (λ (k : ℕ). record { phase = b .phase; gone = k; limits = b .limits; level = b .level; wants = b .wants }) (gone-output b′ o ∙ ap (λ (k : ℕ). k + n) (sym (gone-output b o))))
+      (ap (λ (k : ℕ). record { phase = b .phase; gone = k; limits = b .limits; level = readLevel (b .level); wants = b .wants }) (gone-output b′ o ∙ ap (λ (k : ℕ). k + n) (sym (gone-output b o))))
 
 -- ---- 03
 either-true : (x y : Bool) → x ≡ true → x || y ≡ true

@@ -19,6 +19,10 @@ pub record Account (G : Type 0) : Type 0 where
   pub rest : List (Glyph G)
   pub state : State
 
+-- "A level above 3 reads as 0."
+unfoldable pub readLevel : ℕ → ℕ
+readLevel level = cond (leb level 3) level 0
+
 unfoldable pub inPhase : Phase → State → State
 inPhase p s = record { phase = p; gone = s .gone; limits = s .limits; level = s .level; wants = s .wants }
 
@@ -69,9 +73,9 @@ module _ {G : Type 0} where
   unfoldable pub positions : Account G → List Position
   positions a = cond (hasPositions a) (map (λ g. g .info .position) (input a)) []
 
-  -- "Fresh: `Buffer::new` with the given level and wants"; "A level above 3 reads as 0."
+  -- "Fresh: `Buffer::new` with the given level and wants"
   unfoldable pub freshAccount : ℕ → ℕ → Account G
-  freshAccount level wants = record { done = []; passed = []; rest = []; state = record { phase = Plain; gone = 0; limits = freshLimits; level = cond (leb level 3) level 0; wants = wants } }
+  freshAccount level wants = record { done = []; passed = []; rest = []; state = record { phase = Plain; gone = 0; limits = freshLimits; level = readLevel level; wants = wants } }
 
   unfoldable pub limiting : (Limits → Limits) → Account G → Account G
   limiting h a = record { done = a .done; passed = a .passed; rest = a .rest; state = withLimits (h (a .state .limits)) (a .state) }

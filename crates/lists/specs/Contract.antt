@@ -2,30 +2,42 @@
 use mathlib.Core.{Path._≡_, Bool.Bool, Bool.true, Bool.false, Bool.cond, Bool.not, List.List}
 use Prim.Native.Nat.{ℕ}
 use lib.{ListN.length}
-use Rattle.records.specs.{Contradiction, Answer, Done, Value, No, Counters.capacityOf, View.wordsFrom}
+use Rattle.records.specs.{Contradiction, Answers.Said, Answers.ok, Answers.okWith, Answers.no, Answers.said, Counters.capacityOf, Counters.rightlyLent, View.wordsFrom}
 use Rattle.lists.specs.declared.{Buffer.Buffer, Reply.Reply}
-use Rattle.lists.specs.Account.{Account}
+use Rattle.lists.specs.Account.{Account, freshAccount}
 use Rattle.lists.specs.Results.{Result, Outcome, outcome, refuse_when_else_}
+use Rattle.lists.specs.Cursor.{fresh}
 use Rattle.lists.specs.State.{account, accountOf, sound, Held}
+
+-- what a function gives back and leaves in the slices: its answer in document 01's words, and the account
+abbrev pub outcomeOf : Reply → (first second : List ℕ) → Outcome ℕ
+outcomeOf r f s = record { answer = said (r .answer); after = account (r .buffer) f s }
 
 -- refusal 1, then the call on the account of the buffer
 unfoldable pub judged : (ℕ → Account ℕ → Result ℕ) → Buffer → (first second : List ℕ) → Outcome ℕ
 judged call b f s = outcome (account b f s) (refuse Contradiction when not (sound b f s) else call (capacityOf (length f)) (account b f s))
 
-abbrev pub isNo : Answer → Bool
-isNo a = elim a [ Done ↦ false | Value v ↦ false | No r ↦ true ]
+abbrev pub isNo : Said → Bool
+isNo a = elim a [ ok ↦ false | okWith v ↦ false | no n ↦ true ]
 
 -- b, f and s are the state and the slices before the call; r, f′ and s′ are what it gives back and leaves
 pub record Meets (call : ℕ → Account ℕ → Result ℕ) (b : Buffer) (f s : List ℕ) (r : Reply) (f′ s′ : List ℕ) : Type 0 where
   -- answer and account
-  pub is : record { answer = r .answer; after = account (r .buffer) f′ s′ } ≡ judged call b f s
+  pub is : outcomeOf r f′ s′ ≡ judged call b f s
   -- a refusal changes no state and no word
-  pub stays : isNo (r .answer) ≡ true → (r .buffer ≡ b) × (f′ ≡ f) × (s′ ≡ s)
+  pub stays : isNo (said (r .answer)) ≡ true → (r .buffer ≡ b) × (f′ ≡ f) × (s′ ≡ s)
   -- "Words from the allocated size on are never written"
   pub first-beyond : wordsFrom (r .buffer .limits .allocated) f′ ≡ wordsFrom (r .buffer .limits .allocated) f
   pub second-beyond : wordsFrom (r .buffer .limits .allocated) s′ ≡ wordsFrom (r .buffer .limits .allocated) s
   -- a buffer that does not contradict itself stays so
   pub stays-sound : sound b f s ≡ true → sound (r .buffer) f′ s′ ≡ true
+
+-- the first buffer, which no call is made on: "Fresh: `Buffer::new` with the given level and wants". Refused, it is the one of wants 0
+pub record Begins (level wants : ℕ) (r : Reply) : Type 0 where
+  -- answer and account, whichever slices are lent
+  pub is : (f s : List ℕ) → outcomeOf r f s ≡ outcome (freshAccount level 0) (fresh level wants (freshAccount level 0))
+  -- it does not contradict itself
+  pub is-sound : (f s : List ℕ) → sound (r .buffer) f s ≡ rightlyLent (length f) (length s)
 
 -- ---- the same below the exported functions, for the slice that holds the run and the other. A call may exchange the two
 abbrev pub exchanged : Bool → Bool → Bool
@@ -35,8 +47,8 @@ unfoldable pub accountIn : (before : Bool) → Buffer → (run other : List ℕ)
 accountIn before r run other = cond (exchanged before (r .swapped)) (accountOf r other run) (accountOf r run other)
 
 pub record MeetsIn (call : ℕ → Account ℕ → Result ℕ) (b : Buffer) (run other : List ℕ) (r : Reply) (run′ other′ : List ℕ) : Type 0 where
-  pub is : record { answer = r .answer; after = accountIn (b .swapped) (r .buffer) run′ other′ } ≡ outcome (accountOf b run other) (call (capacityOf (length run)) (accountOf b run other))
-  pub stays : isNo (r .answer) ≡ true → (r .buffer ≡ b) × (run′ ≡ run) × (other′ ≡ other)
+  pub is : record { answer = said (r .answer); after = accountIn (b .swapped) (r .buffer) run′ other′ } ≡ outcome (accountOf b run other) (call (capacityOf (length run)) (accountOf b run other))
+  pub stays : isNo (said (r .answer)) ≡ true → (r .buffer ≡ b) × (run′ ≡ run) × (other′ ≡ other)
   pub run-beyond : wordsFrom (r .buffer .limits .allocated) run′ ≡ wordsFrom (r .buffer .limits .allocated) run
   pub other-beyond : wordsFrom (r .buffer .limits .allocated) other′ ≡ wordsFrom (r .buffer .limits .allocated) other
   pub held : Held (r .buffer) run other

@@ -2,7 +2,7 @@
 use mathlib.Core.{Bool.Bool, Bool.cond}
 use Prim.Native.Nat.{ℕ}
 use lib.{Dec.leb, Dec.ltb}
-use Rattle.records.specs.{Refusal, OverCapacity, Answer, Done, Value, No}
+use Rattle.records.specs.{Refusal, OverCapacity, Answers.Said, Answers.ok, Answers.okWith, Answers.no, Answers.refusalNumber}
 use Rattle.lists.specs.Account.{Account, renamed}
 
 infixr 5 refuse_when_else_
@@ -12,7 +12,7 @@ pub data Result (G : Type 0) : Type 0 where
   answered : ℕ → Account G → Result G
 
 pub record Outcome (G : Type 0) : Type 0 where
-  pub answer : Answer
+  pub answer : Said
   pub after : Account G
 
 unfoldable pub renamedResult : {G H : Type 0} → (G → H) → Result G → Result H
@@ -22,9 +22,9 @@ renamedResult f (answered v a) = answered v (renamed f a)
 
 -- "No state and no word changes." The account after a refusal is the one before it
 unfoldable pub outcome : {G : Type 0} → Account G → Result G → Outcome G
-outcome a (refused r) = record { answer = No r; after = a }
-outcome a (accepted b) = record { answer = Done; after = b }
-outcome a (answered v b) = record { answer = Value v; after = b }
+outcome a (refused r) = record { answer = no (refusalNumber r); after = a }
+outcome a (accepted b) = record { answer = ok; after = b }
+outcome a (answered v b) = record { answer = okWith v; after = b }
 
 -- a line of a call's tests, which stand in the order of the refusals
 unfoldable pub refuse_when_else_ : {G : Type 0} → Refusal → Bool → Result G → Result G

@@ -4,7 +4,7 @@ use Prim.Native.Nat.{ℕ, _≤_}
 use lib.{Dec.eqb, Dec.leb, Dec.ltb, ListN.length, ListN.take, Seq.slice}
 use Rattle.records.specs.{Phase, Plain, Output, Positions, Spoiled, Limits, Counters.capacityOf, Counters.rightlyLent, Glyphs.Glyph, View.glyphs, View.placements, View.paired, View.Whole}
 use Rattle.lists.specs.declared.{Buffer.Buffer, Room.Room, Room.the-variants.Fits, Room.the-variants.GivesUp, Room.the-variants.Over}
-use Rattle.lists.specs.Account.{State, Account, outputPhase}
+use Rattle.lists.specs.Account.{State, Account, outputPhase, readLevel}
 
 -- the run's glyphs: with their positions in phase positions, which the other slice holds, and none when spoiled
 unfoldable pub shown : Phase → (run other : List ℕ) → List (Glyph ℕ)
@@ -15,7 +15,7 @@ unfoldable pub goneOf : Buffer → ℕ
 goneOf b = elim (b .phase) [ Plain ↦ 0 | Output ↦ b .idx .0 | Positions ↦ 0 | Spoiled ↦ b .len .0 ]
 
 unfoldable pub stateOf : Buffer → State
-stateOf b = record { phase = b .phase; gone = goneOf b; limits = b .limits; level = b .level; wants = b .wants }
+stateOf b = record { phase = b .phase; gone = goneOf b; limits = b .limits; level = readLevel (b .level); wants = b .wants }
 
 -- of the slice that holds the run, and the other
 unfoldable pub accountOf : Buffer → (run other : List ℕ) → Account ℕ

@@ -1,7 +1,6 @@
 -- The states that the functions make of one another.
 use mathlib.Core.{Bool.true, Bool.false, Bool.cond, Bool.not}
 use Prim.Native.Nat.{ℕ}
-use lib.{Dec.leb}
 use Rattle.records.specs.{Plain, Output, Positions, Spoiled, Limits, Answer, Counters.freshLimits}
 use Rattle.lists.specs.declared.{Buffer.Buffer, Reply.Reply}
 
@@ -15,7 +14,7 @@ unfoldable pub atPlaces : ℕ → ℕ → ℕ → Buffer → Buffer
 atPlaces i l o b = record { idx = record { 0 = i }; len = record { 0 = l }; «out_len» = record { 0 = o }; phase = b .phase; limits = b .limits; level = b .level; wants = b .wants; swapped = b .swapped; «have_separate_output» = b .«have_separate_output» }
 
 unfoldable pub freshBuffer : ℕ → ℕ → Buffer
-freshBuffer level wants = record { idx = record { 0 = 0 }; len = record { 0 = 0 }; «out_len» = record { 0 = 0 }; phase = Plain; limits = freshLimits; level = cond (leb level 3) level 0; wants = wants; swapped = false; «have_separate_output» = false }
+freshBuffer level wants = record { idx = record { 0 = 0 }; len = record { 0 = 0 }; «out_len» = record { 0 = 0 }; phase = Plain; limits = freshLimits; level = level; wants = wants; swapped = false; «have_separate_output» = false }
 
 unfoldable pub apartBuffer : Buffer → Buffer
 apartBuffer b = record { idx = b .idx; len = b .len; «out_len» = b .«out_len»; phase = b .phase; limits = b .limits; level = b .level; wants = b .wants; swapped = b .swapped; «have_separate_output» = true }

@@ -28,6 +28,7 @@ pub struct Buffer {
     pub out_len: DonePlace,
     pub phase: Phase,
     pub limits: Limits,
+    // One above 3 reads as 0: `state::read_level`.
     pub level: u32,
     pub wants: u32,
     // The second lent slice holds the run.

@@ -3,7 +3,8 @@ ghost use mathlib.Core.Path.{_≡_};
 ghost use mathlib.Core.Bool.{not, cond};
 ghost use Prim.Native.Nat.{_+_, _-_, _≤_};
 ghost use lib.ListN.{length};
-ghost use Rattle.lists.specs.Account.{outputPhase, positionsPhase, spoiledPhase};
+ghost use Rattle.lists.specs.Account.{outputPhase, positionsPhase, spoiledPhase, readLevel};
+ghost use Rattle.lists.specs.Contract.{Begins};
 ghost use Rattle.lists.specs.State.{inOrder, sound, roomFor};
 ghost use Rattle.lists.specs.States.{atPlaces, withLimitsOf, freshBuffer, apartBuffer, openedBuffer, positionedBuffer, swappedBuffer, spoiledBuffer, reply};
 use super::Buffer;
@@ -47,6 +48,16 @@ pub fn is_spoiled(phase: Phase) -> bool
         Phase::Positions => false,
         Phase::Spoiled => true,
     }
+}
+
+// The one place where a level is read: one above 3 reads as 0.
+pub fn read_level(level: u32) -> u32
+    ensures { λ r. ⌜ r ≡ readLevel level ⌝ }
+{
+    if level <= 3 {
+        return level;
+    }
+    0
 }
 
 // Whether the counters agree with each other and with the capacity.
@@ -150,23 +161,31 @@ pub fn at_places(b: Buffer, idx: usize, len: usize, out_len: usize) -> Buffer
     r
 }
 
-pub fn fresh_buffer(level: u32, wants: u32) -> Buffer
+pub(crate) fn fresh_buffer(level: u32, wants: u32) -> Buffer
     ensures { λ r. ⌜ r ≡ freshBuffer level wants ⌝ }
 {
-    let mut known = 0;
-    if level <= 3 {
-        known = level;
-    }
     Buffer {
         idx: InputPlace(0),
         len: InputPlace(0),
         out_len: DonePlace(0),
         phase: Phase::Plain,
         limits: records::counters::fresh(),
-        level: known,
+        level: level,
         wants: wants,
         swapped: false,
         have_separate_output: false,
+    }
+}
+
+impl Buffer {
+    // The first buffer. Wants over 3 is refusal 4, and the buffer is then the one of wants 0.
+    pub fn new(level: u32, wants: u32) -> Reply
+        ensures { λ r. ⌜ Begins level wants r ⌝ }
+    {
+        if 3 < wants {
+            return refusal(fresh_buffer(level, 0), Refusal::BadOperand);
+        }
+        accepted(fresh_buffer(level, wants))
     }
 }
 
