@@ -40,14 +40,14 @@ module _ {at n : ℕ} {w : Info} {gs : List ℕ} where
   pub putting-none : {ws : List ℕ} → at + n ≤ length (glyphs ws) → n ≤ length gs → Putting ws at w gs n ws 0
   putting-none {ws} hw hg = record { in-gs = hg; in-ws = hw; most = omega arith; is = copied-none (glyphs ws) (copies w gs) at 0; len = refl }
 
-  pub putting-more : {ws₀ ws ws′ : List ℕ} {i : ℕ} {g : Glyph ℕ} → Putting ws₀ at w gs n ws i → i < n
-      → g ≡ record { glyph = getD gs i 0; info = w } → glyphs ws′ ≡ set (glyphs ws) (at + i) g → length ws′ ≡ length ws → Putting ws₀ at w gs n ws′ (i + 1)
-  putting-more {ws₀} {ws} {ws′} {i} {g} v h eg ep el =
+  pub putting-more : {ws₀ ws ws′ : List ℕ} {i x : ℕ} {g : Glyph ℕ} → Putting ws₀ at w gs n ws i → i < n
+      → x ≡ getD gs i 0 → g ≡ record { glyph = x; info = w } → glyphs ws′ ≡ set (glyphs ws) (at + i) g → length ws′ ≡ length ws → Putting ws₀ at w gs n ws′ (i + 1)
+  putting-more {ws₀} {ws} {ws′} {i} {x} {g} v h ex eg ep el =
       let same : length (glyphs ws) ≡ length (glyphs ws₀) = glyphs-same ws ws₀ (v .len) in
       let same′ : length (glyphs ws′) ≡ length (glyphs ws) = glyphs-same ws′ ws el in
       let many : length (copies w gs) ≡ length gs = length-copies w gs in
       let zero-more : 0 + i ≡ i = omega arith in
-      let read : g ≡ getD (copies w gs) (0 + i) zeroGlyph = eg ∙ (sym (copies-at w gs i (omega arith)) ∙ ap (λ (k : ℕ). getD (copies w gs) k zeroGlyph) (sym zero-more)) in
+      let read : g ≡ getD (copies w gs) (0 + i) zeroGlyph = rw ex at eg ∙ (sym (copies-at w gs i (omega arith)) ∙ ap (λ (k : ℕ). getD (copies w gs) k zeroGlyph) (sym zero-more)) in
       record {
         in-gs = v .in-gs;
         in-ws = omega arith;
@@ -147,10 +147,11 @@ module _ {A : Type 0} (run other new : List A) (o n : ℕ) (out-run : o + n ≤ 
   put-other false other′ m h eo = ap (drop m) eo
 
 module _ {b : Buffer} {m n : ℕ} {run other : List ℕ} (v : Writable b m n run other) where
-  pub write-room : (b .«out_len» .0 + n ≤ length (glyphs run)) × (b .«out_len» .0 + n ≤ length (glyphs other))
-  write-room =
-      let same : length (glyphs run) ≡ length (glyphs other) = glyphs-same run other (v .roomy .held .same) in
-      (omega (arith, v .roomy .in-size, v .roomy .held .all-in), omega (arith, v .roomy .in-size, v .roomy .held .all-in))
+  pub write-room-run : b .«out_len» .0 + n ≤ length (glyphs run)
+  write-room-run = omega (arith, v .roomy .in-size, v .roomy .held .all-in)
+
+  pub write-room-other : b .«out_len» .0 + n ≤ length (glyphs other)
+  write-room-other = let same : length (glyphs run) ≡ length (glyphs other) = glyphs-same run other (v .roomy .held .same) in omega (arith, write-room-run)
 
   write-held : Held (atPlaces (b .idx .0 + m) (b .len .0) (b .«out_len» .0 + n) b) run other
   unfolding atPlaces
@@ -182,10 +183,10 @@ module _ {b : Buffer} {m n : ℕ} {run other : List ℕ} (v : Writable b m n run
         let g : List (Glyph ℕ) = glyphs run in
         let t : List (Glyph ℕ) = glyphs other in
         let done : take (o + n) (cond s (glyphs other′) (glyphs run′)) ≡ take o (cond s t g) ++ copies w (take n gs) =
-        put-done g t (copies w gs) o n (write-room .0) (write-room .1) room-new s (glyphs run′) (glyphs other′) er eo
+        put-done g t (copies w gs) o n write-room-run write-room-other room-new s (glyphs run′) (glyphs other′) er eo
         ∙ ap (λ (x : List (Glyph ℕ)). take o (cond s t g) ++ x) (take-copies w n gs) in
         let rest : slice (i + m) l (glyphs run′) ≡ drop m (slice i l g) =
-        put-rest g t (copies w gs) o n (write-room .0) (write-room .1) room-new s (glyphs run′) i m l er (v .behind) in
+        put-rest g t (copies w gs) o n write-room-run write-room-other room-new s (glyphs run′) i m l er (v .behind) in
         output-places b (i + m) l (o + n) run′ other′ (v .roomy .output)
         ∙ (output-cong b refl done rest
         ∙ ap (replacing w (take n gs) m) (sym (output-account b run other (v .roomy .output))))
@@ -198,9 +199,9 @@ module _ {b : Buffer} {m n : ℕ} {run other : List ℕ} (v : Writable b m n run
         let a : ℕ = b .limits .allocated in
         let s : Bool = b .«have_separate_output» in
         let behind-run : drop a (glyphs run′) ≡ drop a (glyphs run) =
-        put-run (glyphs run) (glyphs other) (copies w gs) o n (write-room .0) (write-room .1) room-new s (glyphs run′) a (v .roomy .in-size) er in
+        put-run (glyphs run) (glyphs other) (copies w gs) o n write-room-run write-room-other room-new s (glyphs run′) a (v .roomy .in-size) er in
         let behind-other : drop a (glyphs other′) ≡ drop a (glyphs other) =
-        put-other (glyphs run) (glyphs other) (copies w gs) o n (write-room .0) (write-room .1) room-new s (glyphs other′) a (v .roomy .in-size) eo in
+        put-other (glyphs run) (glyphs other) (copies w gs) o n write-room-run write-room-other room-new s (glyphs other′) a (v .roomy .in-size) eo in
         rw e (record {
           is = write-is;
           size = refl;

@@ -8,7 +8,7 @@ use Rattle.records.specs.{WrongPhase, OutOfRange, Done, No, Limits, Glyphs.Glyp
 use Rattle.records.specs.declared.{Glyph.Glyph as Words}
 use Rattle.records.proofs.{View.length-clusters, View.whole-same, View.cluster-of, View.seen-mask, View.seen-cluster, Renaming.append-map}
 use Rattle.lists.specs.declared.{Buffer.Buffer, Reply.Reply}
-use Rattle.lists.specs.{Account.Account, Account.outputPhase, Account.hasOutput, Account.outLen, Account.withDone, Contract.MeetsIn, Cursor.dropping, Results.refused, Results.accepted, Results.refuse_when_else_, State.accountOf, State.goneOf, State.Held, States.reply, States.atPlaces, States.withLimitsOf}
+use Rattle.lists.specs.{Account.readLevel, Account.Account, Account.outputPhase, Account.hasOutput, Account.outLen, Account.withDone, Contract.MeetsIn, Cursor.dropping, Results.refused, Results.accepted, Results.refuse_when_else_, State.accountOf, State.goneOf, State.Held, States.reply, States.atPlaces, States.withLimitsOf}
 use Rattle.lists.proofs.{Accounts.output-clean, Accounts.output-of, Accounts.out-of, Accounts.held-lengths, Calls.in-refused, Calls.in-accepted, Copying.range-same, Simple.dropping-of}
 use Rattle.edits.specs.{Acts.Acts, Acts.Mergeful, Deletes.Deletable, Deletes.nextHas, Deletes.lastHas, Deletes.inheriting, Deleting.current, Deleting.inherited, Deleting.survives, Deleting.deleted, Deleting.deleteGlyph, Deleting.mergedForward, Merging.merge, Merging.clustersMerge}
 use Rattle.lists.proofs.Outputs.{output, output-cong, gone-output, output-account, beyond}
@@ -197,7 +197,7 @@ module _ {b : Buffer} {run other : List ℕ} (v : Deletable b run other) where
   }
 
   pub merge-deletes : survives (clusters ((accountOf b run other) .rest)) (clusters ((accountOf b run other) .done)) ≡ false → b .«out_len» .0 ≤ 0 → 1 < b .len .0 - b .idx .0
-      → deleted (accountOf b run other) ≡ dropping 1 (merge (clustersMerge (b .level)) (b .idx .0 - goneOf b) (b .idx .0 + 2 - goneOf b) (accountOf b run other))
+      → deleted (accountOf b run other) ≡ dropping 1 (merge (clustersMerge (readLevel (b .level))) (b .idx .0 - goneOf b) (b .idx .0 + 2 - goneOf b) (accountOf b run other))
   merge-deletes h k l = deletes-merged v h k l ∙ ap (dropping 1) (sym (merge-places b run other (v .output) 2))
 
 -- ---- delete_glyph

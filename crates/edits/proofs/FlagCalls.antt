@@ -6,7 +6,7 @@ use borrow.Author.Tests.{le-ltb, lt-ltb, ltb-false, eq-eqb, ne-eqb}
 use lib.{Dec.ltb, ListN.length, ListN.drop, Seq.slice}
 use Rattle.records.specs.{Phase, Plain, Output, Positions, Spoiled, InputPlace, WrongPhase, OutOfRange, Done, No, Glyphs.flagged, Ranges.clusters, Ranges.edit, View.glyphs, View.placements}
 use Rattle.lists.specs.declared.{Buffer.Buffer, Reply.Reply}
-use Rattle.lists.specs.{Account.Account, Account.State, Account.outputPhase, Account.spoiledPhase, Account.isSpoiled, Account.len, Account.withLimits, Contract.MeetsIn, Results.Result, Results.refused, Results.accepted, Results.refuse_when_else_, State.shown, State.goneOf, State.stateOf, State.accountOf, State.Held, States.reply, States.withLimitsOf}
+use Rattle.lists.specs.{Account.readLevel, Account.Account, Account.State, Account.outputPhase, Account.spoiledPhase, Account.isSpoiled, Account.len, Account.withLimits, Contract.MeetsIn, Results.Result, Results.refused, Results.accepted, Results.refuse_when_else_, State.shown, State.goneOf, State.stateOf, State.accountOf, State.Held, States.reply, States.withLimitsOf}
 use Rattle.lists.proofs.{Accounts.spoiled-of, Accounts.len-of, Calls.in-refused, Calls.in-accepted, Calls.in-call, Accounts.gone-of}
 use Rattle.edits.specs.declared.{InputBound.InputBound}
 use Rattle.edits.specs.{Acts.Acts, Acts.Mergeful, Bounds.inputBound, Bounds.inputNumber, Flags.interior, Flags.sought, Flags.flagInterior, Flags.flagAll, Flags.number, Flags.tooFar, Flags.startOf, Flags.endOf, Flags.plainForm, Flags.wantsConcat, Flags.wantsTatweel, Holding.holds, Marks.flaggedRun, Plans.InputRange, Plans.InputFrom}
@@ -60,7 +60,7 @@ module _ {b : Buffer} {run other : List ℕ} {s e : ℕ} (v : Mergeful b s e run
   unfolding flagInterior
   short-is h eg = account-same b run run′ other eg ∙ rw (width v, h)
 
-  pub plain-acts : (interiorly : Bool) → length run′ ≡ length run → glyphs run′ ≡ flaggedRun interiorly (b .level) bits s e (glyphs run)
+  pub plain-acts : (interiorly : Bool) → length run′ ≡ length run → glyphs run′ ≡ flaggedRun interiorly (readLevel (b .level)) bits s e (glyphs run)
       → Acts (flagPlain interiorly bits (s - goneOf b) (e - goneOf b)) b run other b run′ other
   unfolding flaggedRun
   plain-acts true lr eg = by-width (ltb (e - s) 2) refl
@@ -71,7 +71,7 @@ module _ {b : Buffer} {run other : List ℕ} {s e : ℕ} (v : Mergeful b s e run
           acts-free (v .held) (flagInterior bits (s - goneOf b) (e - goneOf b)) lr (ap (drop (b .len .0)) same) (short-is h same) .0
       by-width false h =
           let two : 2 ≤ e - s = ltb-false (e - s) 2 h in
-          let marked : glyphs run′ ≡ interior (b .level) (sought (b .level) (slice s e (clusters (glyphs run)))) bits s e (glyphs run) = eg ∙ rw h in
+          let marked : glyphs run′ ≡ interior (readLevel (b .level)) (sought (readLevel (b .level)) (slice s e (clusters (glyphs run)))) bits s e (glyphs run) = eg ∙ rw h in
           acts-free (v .held) (flagInterior bits (s - goneOf b) (e - goneOf b)) lr (flag-behind v bits run′ two marked) (flag-is v bits run′ two marked) .0
   plain-acts false lr eg =
       acts-free (v .held) (flagAll bits (s - goneOf b) (e - goneOf b)) lr (rw eg (edit-drop-behind (flagged bits) s e (b .len .0) (glyphs run) (v .order) (v .end))) (all-is eg) .0
@@ -157,7 +157,7 @@ module _ {b : Buffer} {run other : List ℕ} (v : Held b run other) (interiorly 
         plain-in-outside y er =
             in-refused OutOfRange (plain-outside interiorly wanted bits (inputBound s) (inputBound e) _ (spoiled-of b run other ∙ h) (wanted-far wanted _ false w et k) ei (end-is v e h ej) (sym (gone-of b run other)) (sym eo ∙ y)) v er
 
-        pub plain-in-flags : {run′ : List ℕ} → o ≡ false → length run′ ≡ length run → glyphs run′ ≡ flaggedRun interiorly (b .level) bits i j (glyphs run) → r ≡ reply b Done
+        pub plain-in-flags : {run′ : List ℕ} → o ≡ false → length run′ ≡ length run → glyphs run′ ≡ flaggedRun interiorly (readLevel (b .level)) bits i j (glyphs run) → r ≡ reply b Done
             → MeetsIn (λ capacity a. plainForm interiorly wanted bits (inputBound s) (inputBound e) a) b run other r run′ other
         plain-in-flags {run′} n lr eg er =
             in-acts (plain-acts (plain-in-room v e h ej eo n) bits run′ interiorly lr eg)

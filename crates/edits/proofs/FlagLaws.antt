@@ -11,7 +11,7 @@ use Rattle.records.specs.{Glyphs.Glyph, Glyphs.flagged, Glyphs.flaggedUnless, R
 use Rattle.records.proofs.View.{length-clusters}
 use Rattle.lists.specs.Account.{Account, State, input, withInput}
 use Rattle.lists.proofs.{Runs.heads-le, Runs.tails-le, Editing.edit-empty, Editing.edit-length}
-use Rattle.edits.specs.Flags.{interior, sought, flagInterior, flagAll}
+use Rattle.edits.specs.Flags.{interior, sought, seeksAll, flagInterior, flagAll}
 use Rattle.edits.specs.Holding.{holds, cut}
 use Rattle.edits.specs.Plans.{InputRange, InputFrom}
 use Rattle.edits.proofs.MergePlans.{first-slice, last-slice}
@@ -52,9 +52,9 @@ module _ {l : List (Glyph ℕ)} {level m i j f e : ℕ} {t : Bool} (v : Ends l l
   interior-front {at} nt fm ea el = rw (f-is, e-is, ← v .test, nt, ne-eqb f m fm, ← ea) el
 
 -- ---- what a flag form seeks
-pub sought-ends : (level s e : ℕ) (cs : List ℕ) → (level ≡ 2 → ⊥) → s < e → e ≤ length cs → sought level (slice s e cs) ≡ min (getD cs s 4294967295) (getD cs (e - 1) 4294967295)
+pub sought-ends : (level s e : ℕ) (cs : List ℕ) → seeksAll level ≡ false → s < e → e ≤ length cs → sought level (slice s e cs) ≡ min (getD cs s 4294967295) (getD cs (e - 1) 4294967295)
 unfolding sought
-sought-ends level s e cs n o b = rw (ne-eqb level 2 n, first-slice s e cs o b, last-slice s e cs o b)
+sought-ends level s e cs n o b = rw (n, first-slice s e cs o b, last-slice s e cs o b)
 
 -- ---- flags in the input, seen from the input
 module _ (level m bits gone len i j : ℕ) (run : List (Glyph ℕ)) (oi : gone ≤ i) (oj : i ≤ j) (ol : j ≤ len) (of : len ≤ length run) where

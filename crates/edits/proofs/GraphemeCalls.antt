@@ -6,7 +6,7 @@ use borrow.Author.Tests.{lt-ltb, le-ltb, eq-eqb, ne-eqb}
 use lib.{Dec.ltb, ListN.length}
 use Rattle.records.specs.{WrongPhase, BadOperand, Done, No, Glyphs.key, Ranges.infos, Ranges.is}
 use Rattle.lists.specs.declared.{Buffer.Buffer, Reply.Reply}
-use Rattle.lists.specs.{Account.Account, Account.withRest, Contract.MeetsIn, Results.refused, Results.accepted, Results.refuse_when_else_, State.stateOf, State.accountOf, State.Held, States.reply, States.withLimitsOf}
+use Rattle.lists.specs.{Account.readLevel, Account.Account, Account.withRest, Contract.MeetsIn, Results.refused, Results.accepted, Results.refuse_when_else_, State.stateOf, State.accountOf, State.Held, States.reply, States.withLimitsOf}
 use Rattle.lists.proofs.Calls.{in-refused}
 use Rattle.edits.specs.{Acts.Acts, WholeRun.notWhole, Merging.merge, Groups.sizes, Groups.continues, Groups.regrouped, Groups.mergedEach, Groups.reverseGraphemes, Wholes.WholeInput, Reversals.Rearranges}
 use Rattle.edits.proofs.{Chaining.acts-then, GroupLaws.graphemes-same, MergeEach.keys-merge, MergeEach.limits-whole, WholeInputs.not-not-whole, WholeInputs.whole-lengths, MergeCalls.in-acts, ReverseCalls.rearranged}
@@ -55,22 +55,22 @@ module _ {b : Buffer} {run other : List ℕ} (w : WholeInput b run other) (slot 
   in-graphemes-bad o er = in-refused BadOperand (graphemes-bad slot mask (accountOf b run other) (not-not-whole w) (lt-ltb 1 slot o)) (w .held) er
 
   module _ (o : slot ≤ 1) {r : Reply} where
-    pub in-graphemes-plain : {run′ other′ : List ℕ} → (b .level ≡ 1 → ⊥) → length run′ ≡ length run → length other′ ≡ length other → Rearranges (λ l. regrouped (sizes (continues slot mask) (infos l)) l) b run other run′ other′ → r ≡ reply b Done
+    pub in-graphemes-plain : {run′ other′ : List ℕ} {level : ℕ} → level ≡ readLevel (b .level) → (level ≡ 1 → ⊥) → length run′ ≡ length run → length other′ ≡ length other → Rearranges (λ l. regrouped (sizes (continues slot mask) (infos l)) l) b run other run′ other′ → r ≡ reply b Done
         → MeetsIn (λ capacity a. reverseGraphemes slot mask a) b run other r run′ other′
     unfolding accountOf stateOf
-    in-graphemes-plain n lr lo v er =
+    in-graphemes-plain el n lr lo v er =
         in-acts (rearranged w lr lo v)
-        (graphemes-plain slot mask (accountOf b run other) (not-not-whole w) (le-ltb 1 slot o) (ne-eqb (b .level) 1 n)) er
+        (graphemes-plain slot mask (accountOf b run other) (not-not-whole w) (le-ltb 1 slot o) (ne-eqb (readLevel (b .level)) 1 (rw (← el) n))) er
 
-    pub in-graphemes-merged : {c : Buffer} {run₁ other₁ run₂ other₂ : List ℕ} → b .level ≡ 1
+    pub in-graphemes-merged : {c : Buffer} {run₁ other₁ run₂ other₂ : List ℕ} {level : ℕ} → level ≡ readLevel (b .level) → level ≡ 1
         → Acts (λ a. mergedEach true (sizes (continues slot mask) (infos (a .rest))) 0 a) b run other c run₁ other₁ → c ≡ withLimitsOf (c .limits) b → length run₁ ≡ length run → length other₁ ≡ length other
         → Rearranges (λ l. regrouped (sizes (continues slot mask) (infos l)) l) c run₁ other₁ run₂ other₂ → length run₂ ≡ length run₁ → length other₂ ≡ length other₁ → r ≡ reply c Done
         → MeetsIn (λ capacity a. reverseGraphemes slot mask a) b run other r run₂ other₂
     unfolding accountOf stateOf
-    in-graphemes-merged {c} {run₁} {other₁} {run₂} {other₂} n u ec lr lo v lr′ lo′ er =
+    in-graphemes-merged {c} {run₁} {other₁} {run₂} {other₂} el n u ec lr lo v lr′ lo′ er =
         let a : Account ℕ = accountOf b run other in
         let ns : List ℕ = sizes (continues slot mask) (infos (a .rest)) in
         let m : Account ℕ = mergedEach true ns 0 a in
         in-acts (acts-then u lr lo (rearranged (whole-limits w ec (u .held) lr lo) lr′ lo′ v))
-        (graphemes-merged slot mask a (not-not-whole w) (le-ltb 1 slot o) (eq-eqb (b .level) 1 n)
+        (graphemes-merged slot mask a (not-not-whole w) (le-ltb 1 slot o) (eq-eqb (readLevel (b .level)) 1 (sym el ∙ n))
         ∙ ap (λ (k : List ℕ). accepted (withRest (regrouped k (m .rest)) m)) (sym (each-sizes slot mask ns a))) er

@@ -8,7 +8,7 @@ use Rattle.records.specs.{Phase, Plain, Output, Positions, Spoiled, Position, L
 use Rattle.records.proofs.View.{length-glyphs, glyphs-same, placements-glyphs, length-paired, beyond-glyphs, beyond-placements, whole-same}
 use Rattle.records.proofs.Pairs.{paired-take, paired-append}
 use Rattle.lists.specs.declared.{Buffer.Buffer, Reply.Reply, Room.the-variants.Fits, Room.the-variants.GivesUp, Room.the-variants.Over}
-use Rattle.lists.specs.{Account.Account, Account.positionsPhase, Account.spoiledPhase, Account.hasPositions, Account.len, Account.limiting, Account.sized, Account.failing, Account.withLimits, Account.withRest, Contract.MeetsIn, Filled.filled, Results.refused, Results.accepted, Results.answered, Results.refuse_when_else_, Results.needing, State.shown, State.goneOf, State.stateOf, State.accountOf, State.Held, State.roomFor, States.reply, States.atPlaces, States.withLimitsOf}
+use Rattle.lists.specs.{Account.readLevel, Account.Account, Account.positionsPhase, Account.spoiledPhase, Account.hasPositions, Account.len, Account.limiting, Account.sized, Account.failing, Account.withLimits, Account.withRest, Contract.MeetsIn, Filled.filled, Results.refused, Results.accepted, Results.answered, Results.refuse_when_else_, Results.needing, State.shown, State.goneOf, State.stateOf, State.accountOf, State.Held, State.roomFor, States.reply, States.atPlaces, States.withLimitsOf}
 use Rattle.lists.proofs.{Accounts.limits-of, Accounts.len-of, Accounts.fits-within, Accounts.needing-fits, Accounts.needing-gives-up, Accounts.needing-over, Calls.in-refused, Calls.in-accepted, Calls.in-answered, Filling.take-filled, Filling.drop-filled, Accounts.positions-of}
 use Rattle.edits.specs.{Fills.longerBuffer, Fills.Lengthened, WholeRun.notWhole, WholeRun.push, WholeRun.setLength, Wholes.WholeInput}
 use Rattle.lists.proofs.Inner.{limits-side, failing-of, held-failed}
@@ -75,7 +75,7 @@ module _ {b : Buffer} {run other : List ℕ} (w : WholeInput b run other) where
     unfolding stateOf longerBuffer atPlaces withLimitsOf withLimits
     longer-state =
         let g : goneOf (longerBuffer n b) ≡ goneOf b = whole-gone longer-whole ∙ sym (whole-gone w) in
-        λ k. record { phase = b .phase; gone = g k; limits = grown n (b .limits); level = b .level; wants = b .wants }
+        λ k. record { phase = b .phase; gone = g k; limits = grown n (b .limits); level = readLevel (b .level); wants = b .wants }
 
     module _ (run′ other′ : List ℕ) (lr : length run′ ≡ length run) (lo : length other′ ≡ length other) where
       longer-account : accountOf (longerBuffer n b) run′ other′ ≡ record { done = []; passed = []; rest = take n (shown (b .phase) run′ other′); state = stateOf (longerBuffer n b) }

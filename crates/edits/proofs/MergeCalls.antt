@@ -7,7 +7,7 @@ use lib.{Dec.eqb, Dec.ltb, ListN.length, ListN.take, ListN.drop, Seq.slice}
 use Rattle.records.specs.{Phase, Plain, Output, Positions, Spoiled, InputPlace, WrongPhase, OutOfRange, Done, No, Limits, Glyphs.Glyph, Counters.capacityOf, Counters.costs, Ranges.clusters, View.glyphs, View.placements, View.wordsFrom}
 use Rattle.records.proofs.View.{glyphs-same, whole-same, beyond-glyphs}
 use Rattle.lists.specs.declared.{Buffer.Buffer, Reply.Reply}
-use Rattle.lists.specs.{Account.Account, Account.State, Account.outputPhase, Account.spoiledPhase, Account.isSpoiled, Account.withLimits, Contract.MeetsIn, Results.refused, Results.accepted, Results.Result, Results.refuse_when_else_, State.shown, State.goneOf, State.stateOf, State.accountOf, State.Held, States.reply, States.withLimitsOf}
+use Rattle.lists.specs.{Account.readLevel, Account.Account, Account.State, Account.outputPhase, Account.spoiledPhase, Account.isSpoiled, Account.withLimits, Contract.MeetsIn, Results.refused, Results.accepted, Results.Result, Results.refuse_when_else_, State.shown, State.goneOf, State.stateOf, State.accountOf, State.Held, States.reply, States.withLimitsOf}
 use Rattle.lists.proofs.{Accounts.spoiled-of, Accounts.len-of, Calls.in-refused, Calls.in-accepted, Calls.in-call, Accounts.gone-of}
 use Rattle.edits.specs.{Acts.Acts, Acts.Mergeful, Flags.interior, Flags.sought, Flags.flagInterior, Holding.holds, Holding.cut, Merging.merge, Merging.merged, Merging.graphemesMerge, Merging.mergeInput, Merging.outsideInput, Plans.InputRange, Plans.InputFrom, Plans.Mergeable, Plans.MergedApart, Plans.MergedWithin, Plans.mergePlan, Plans.mergedRun, Plans.mergedTail}
 use Rattle.lists.proofs.Outputs.{goneIn, shown-output}
@@ -223,7 +223,7 @@ module _ {b : Buffer} {run other : List ℕ} {s e : ℕ} (v : Mergeful b s e run
   pub flag-room : 2 ≤ e - s → (s < e) × (e ≤ length (glyphs run))
   flag-room two = (omega arith, omega (arith, v .end, v .held .len-in, v .held .all-in))
 
-  module _ (bits : ℕ) (run′ : List ℕ) (two : 2 ≤ e - s) (eg : glyphs run′ ≡ interior (b .level) (sought (b .level) (slice s e (clusters (glyphs run)))) bits s e (glyphs run)) where
+  module _ (bits : ℕ) (run′ : List ℕ) (two : 2 ≤ e - s) (eg : glyphs run′ ≡ interior (readLevel (b .level)) (sought (readLevel (b .level)) (slice s e (clusters (glyphs run)))) bits s e (glyphs run)) where
     pub flag-is : accountOf b run′ other ≡ flagInterior bits (s - goneOf b) (e - goneOf b) (accountOf b run other)
     unfolding withLimitsOf withLimits stateOf
     flag-is = by-place (outputPhase (b .phase) && b .«have_separate_output») refl
@@ -231,17 +231,17 @@ module _ {b : Buffer} {run other : List ℕ} {s e : ℕ} (v : Mergeful b s e run
         by-place : (x : Bool) → (outputPhase (b .phase) && b .«have_separate_output») ≡ x → accountOf b run′ other ≡ flagInterior bits (s - goneOf b) (e - goneOf b) (accountOf b run other)
         by-place true h =
             account-apart b (b .limits) run′ other h
-            ∙ (flagged-held range-apart from-gone bits (stateOf b) (b .level) (glyphs other) two refl eg refl ∙ ap (flagInterior bits (s - goneOf b) (e - goneOf b)) (sym (account-apart b (b .limits) run other h)))
+            ∙ (flagged-held range-apart from-gone bits (stateOf b) (readLevel (b .level)) (glyphs other) two refl eg refl ∙ ap (flagInterior bits (s - goneOf b) (e - goneOf b)) (sym (account-apart b (b .limits) run other h)))
         by-place false h =
             account-within b (b .limits) run′ other h (v .held .none)
-            ∙ (shown-flagged run run′ other from-gone (out-low h) (b .phase) (v .whole) range-within bits (stateOf b) (b .level) two refl eg
+            ∙ (shown-flagged run run′ other from-gone (out-low h) (b .phase) (v .whole) range-within bits (stateOf b) (readLevel (b .level)) two refl eg
             ∙ ap (flagInterior bits (s - goneOf b) (e - goneOf b)) (sym (account-within b (b .limits) run other h (v .held .none))))
 
     pub flag-behind : drop (b .len .0) (glyphs run′) ≡ drop (b .len .0) (glyphs run)
-    flag-behind = rw eg (interior-behind (b .level) (sought (b .level) (slice s e (clusters (glyphs run)))) bits (b .len .0) s e (glyphs run) (v .order) (flag-room two .1) (v .end))
+    flag-behind = rw eg (interior-behind (readLevel (b .level)) (sought (readLevel (b .level)) (slice s e (clusters (glyphs run)))) bits (b .len .0) s e (glyphs run) (v .order) (flag-room two .1) (v .end))
 
   pub at-flag : {merges : Bool} {run′ : List ℕ} → 2 ≤ e - s → merges ≡ false → e - s ≤ 255 → length run′ ≡ length run
-      → glyphs run′ ≡ interior (b .level) (sought (b .level) (slice s e (clusters (glyphs run)))) 3 s e (glyphs run)
+      → glyphs run′ ≡ interior (readLevel (b .level)) (sought (readLevel (b .level)) (slice s e (clusters (glyphs run)))) 3 s e (glyphs run)
       → (Acts (merge merges (s - goneOf b) (e - goneOf b)) b run other b run′ other) × (b ≡ withLimitsOf (b .limits) b)
   unfolding merge
   at-flag {merges} {run′} two h near lr eg =
@@ -263,12 +263,12 @@ module _ (b : Buffer) where
     pub outside-start : {g : ℕ} → s ≤ e → e ≤ b .len .0 → g ≡ goneOf b → ltb s g ≡ (ltb e s || (ltb (b .len .0) e || ltb s (goneOf b)))
     outside-start {g} o h k = rw (le-ltb e s o, le-ltb (b .len .0) e h) (ap (ltb s) k)
 
-module _ (level : ℕ) where
-  pub level-none : level ≡ 0 → true ≡ graphemesMerge level
-  level-none h = rw (eq-eqb level 0 h)
+module _ {level k : ℕ} (e : level ≡ k) where
+  pub level-none : level ≡ 0 → true ≡ graphemesMerge k
+  level-none h = rw (← e, eq-eqb level 0 h)
 
-  pub level-some : (level ≡ 0 → ⊥) → eqb level 3 ≡ graphemesMerge level
-  level-some h = rw (ne-eqb level 0 h)
+  pub level-some : (level ≡ 0 → ⊥) → eqb level 3 ≡ graphemesMerge k
+  level-some h = rw (← e, ne-eqb level 0 h)
 
 -- ---- a call on the input
 module _ (merges : ℕ → Bool) (s e : InputPlace) (a : Account ℕ) where
@@ -332,7 +332,7 @@ module _ {b : Buffer} {run other : List ℕ} (v : Held b run other) (s e : Input
   in-spoiled merges h er = in-refused WrongPhase (input-spoiled (λ level. merges) s e _ (spoiled-of b run other ∙ h)) v er
 
 -- the level says whether the call merges
-pub at-level : {b : Buffer} {run other : List ℕ} {r : Reply} {run′ other′ : List ℕ} {x : Bool} (merges : ℕ → Bool) (s e : InputPlace) → x ≡ merges (b .level)
+pub at-level : {b : Buffer} {run other : List ℕ} {r : Reply} {run′ other′ : List ℕ} {x : Bool} (merges : ℕ → Bool) (s e : InputPlace) → x ≡ merges (readLevel (b .level))
     → MeetsIn (λ capacity a. mergeInput (λ level. x) s e a) b run other r run′ other′ → MeetsIn (λ capacity a. mergeInput (λ level. merges level) s e a) b run other r run′ other′
 unfolding accountOf stateOf
 at-level {b} {run} {other} {r} {run′} {other′} {x} merges s e h m = in-call (input-level merges s e (accountOf b run other) x h) m

@@ -7,7 +7,7 @@ use borrow.Author.Tests.{lt-ltb, le-ltb}
 use lib.{Dec.eqb, Dec.ltb, ListN.take, ListN.drop, ListN.length, Seq.slice, Seq.drop-append-seam}
 use Rattle.records.specs.{Limits, WrongPhase, BadOperand, Done, No, Glyphs.Glyph, Glyphs.Info, Glyphs.withMask, Glyphs.withCluster, Glyphs.setCluster, Glyphs.flagged, Glyphs.flaggedUnless, Glyphs.key, Ranges.infos, Ranges.clusters, Ranges.edit, Ranges.is, Ranges.isnt, Ranges.least, Ranges.first, Ranges.last, Ranges.heads, Ranges.tails, View.glyphs}
 use Rattle.lists.specs.declared.{Buffer.Buffer, Reply.Reply}
-use Rattle.lists.specs.{Account.Account, Account.input, Account.withInput, Account.withDone, Account.paying, Account.limiting, Contract.MeetsIn, Results.refused, Results.accepted, Results.refuse_when_else_, State.shown, State.goneOf, State.accountOf, State.Held, States.reply, States.withLimitsOf}
+use Rattle.lists.specs.{Account.readLevel, Account.Account, Account.input, Account.withInput, Account.withDone, Account.paying, Account.limiting, Contract.MeetsIn, Results.refused, Results.accepted, Results.refuse_when_else_, State.shown, State.goneOf, State.accountOf, State.Held, States.reply, States.withLimitsOf}
 use Rattle.lists.proofs.{Accounts.level-of, Calls.in-refused, Infos.words-drop, Infos.words-edit}
 use Rattle.edits.specs.{Acts.Acts, Acts.Mergeful, Flags.interior, Flags.sought, Flags.flagInterior, Groups.sizes, Groups.continues, Groups.mergedEach, Groups.formClusters, Merging.merge, Merging.merged, Merging.mergeStart, Merging.mergeEnd, Merging.graphemesMerge, WholeRun.notWhole, Wholes.WholeInput}
 use Rattle.edits.proofs.{Chaining.acts-as, Chaining.acts-then, MergeCalls.in-acts, WholeInputs.whole-gone, WholeInputs.whole-lengths, WholeInputs.account-whole, WholeInputs.not-not-whole, GroupLaws.Group, GroupLaws.no-group, GroupLaws.grapheme-group, GroupLaws.graphemes-same}
@@ -208,11 +208,11 @@ module _ {b : Buffer} {run other : List ℕ} (slot mask : ℕ) (w : WholeInput b
   pub form-bad : {r : Reply} → 1 < slot → r ≡ reply b (No BadOperand) → MeetsIn (λ capacity a. formClusters slot mask a) b run other r run other
   form-bad h er = in-refused BadOperand (bad-operand h) (w .held) er
 
-  forms : {merging : Bool} → slot ≤ 1 → merging ≡ graphemesMerge (b .level)
+  forms : {merging : Bool} → slot ≤ 1 → merging ≡ graphemesMerge (readLevel (b .level))
       → formClusters slot mask (accountOf b run other) ≡ accepted (mergedEach merging (sizes (continues slot mask) (infos ((accountOf b run other) .rest))) 0 (accountOf b run other))
   unfolding formClusters refuse_when_else_
   forms h em = rw (not-not-whole w, le-ltb 1 slot h, level-of b run other, em)
 
-  pub form-done : {merging : Bool} {f : Buffer} {run′ other′ : List ℕ} {r : Reply} → slot ≤ 1 → merging ≡ graphemesMerge (b .level)
+  pub form-done : {merging : Bool} {f : Buffer} {run′ other′ : List ℕ} {r : Reply} → slot ≤ 1 → merging ≡ graphemesMerge (readLevel (b .level))
       → Acts (λ a. mergedEach merging (sizes (continues slot mask) (infos (a .rest))) 0 a) b run other f run′ other′ → r ≡ reply f Done → MeetsIn (λ capacity a. formClusters slot mask a) b run other r run′ other′
   form-done h em u er = in-acts u (forms h em) er

@@ -7,7 +7,7 @@ use lib.{Dec.ltb, ListN.length}
 use Rattle.records.specs.{DonePlace, WrongPhase, OutOfRange, Done, No, Limits, Glyphs.Glyph, Counters.costs, View.glyphs}
 use Rattle.records.proofs.View.{glyphs-same}
 use Rattle.lists.specs.declared.{Buffer.Buffer, Reply.Reply}
-use Rattle.lists.specs.{Account.Account, Account.outputPhase, Account.hasOutput, Account.outLen, Account.withLimits, Contract.MeetsIn, Results.refused, Results.accepted, Results.refuse_when_else_, State.goneOf, State.stateOf, State.accountOf, State.Held, States.reply, States.withLimitsOf}
+use Rattle.lists.specs.{Account.readLevel, Account.Account, Account.outputPhase, Account.hasOutput, Account.outLen, Account.withLimits, Contract.MeetsIn, Results.refused, Results.accepted, Results.refuse_when_else_, State.goneOf, State.stateOf, State.accountOf, State.Held, States.reply, States.withLimitsOf}
 use Rattle.lists.proofs.{Accounts.output-of, Accounts.out-of, Calls.in-refused, Calls.in-call}
 use Rattle.edits.specs.{Acts.Acts, Acts.OutMergeful, Holding.holds, Merging.mergeOut, Merging.mergedOut, Merging.mergeDone, Plans.OutMergeable, Plans.MergedOutApart, Plans.MergedOutWithin}
 use Rattle.lists.proofs.Outputs.{gone-out, shown-output}
@@ -120,7 +120,7 @@ module _ {b : Buffer} {run other : List ℕ} (v : Held b run other) (s e : DoneP
         (done-merges (λ level. merges) s e _ (output-of b run other ∙ h) (rw (le-ltb (e .0) (s .0) o, out-of b run other v, le-ltb (b .«out_len» .0) (e .0) k))) er
 
 -- the level says whether the call merges
-pub out-at-level : {b : Buffer} {run other : List ℕ} {r : Reply} {run′ other′ : List ℕ} {x : Bool} (merges : ℕ → Bool) (s e : DonePlace) → x ≡ merges (b .level)
+pub out-at-level : {b : Buffer} {run other : List ℕ} {r : Reply} {run′ other′ : List ℕ} {x : Bool} (merges : ℕ → Bool) (s e : DonePlace) → x ≡ merges (readLevel (b .level))
     → MeetsIn (λ capacity a. mergeDone (λ level. x) s e a) b run other r run′ other′ → MeetsIn (λ capacity a. mergeDone (λ level. merges level) s e a) b run other r run′ other′
 unfolding accountOf stateOf
 out-at-level {b} {run} {other} {r} {run′} {other′} {x} merges s e h m = in-call (done-level merges s e (accountOf b run other) x h) m

@@ -7,7 +7,7 @@ use lib.{Dec.ltb, ListN.length}
 use Rattle.records.specs.{DonePlace, InputPlace, WrongPhase, OutOfRange, Done, No, Glyphs.Glyph, Glyphs.flagged, Ranges.edit, View.glyphs}
 use Rattle.records.proofs.View.{glyphs-same}
 use Rattle.lists.specs.declared.{Buffer.Buffer, Reply.Reply}
-use Rattle.lists.specs.{Account.Account, Account.outputPhase, Account.hasOutput, Account.len, Account.idx, Account.outLen, Account.withLimits, Contract.MeetsIn, Results.refused, Results.accepted, Results.refuse_when_else_, State.stateOf, State.Held, States.reply, States.withLimitsOf}
+use Rattle.lists.specs.{Account.readLevel, Account.Account, Account.outputPhase, Account.hasOutput, Account.len, Account.idx, Account.outLen, Account.withLimits, Contract.MeetsIn, Results.refused, Results.accepted, Results.refuse_when_else_, State.stateOf, State.Held, States.reply, States.withLimitsOf}
 use Rattle.lists.proofs.{Accounts.output-of, Accounts.out-of, Accounts.idx-of, Calls.in-refused, Calls.in-accepted}
 use Rattle.edits.specs.declared.{InputBound.InputBound, DoneBound.DoneBound}
 use Rattle.edits.specs.{Acts.Acts, Bounds.inputBound, Bounds.inputNumber, Bounds.doneBound, Bounds.doneNumber, Flags.interior, Flags.flagOutInterior, Flags.flagOutAll, Flags.number, Flags.tooFar, Flags.startOf, Flags.endOf, Flags.outbufferForm, Flags.wantsConcat, Marks.soughtOut, Marks.flagOut, Marks.OutFlaggable, Plans.OutRange}
@@ -39,16 +39,16 @@ module _ {b : Buffer} {s e : ℕ} {run other : List ℕ} (v : OutFlaggable b s e
   -- ---- the account
   module _ {interiorly : Bool} (bits : ℕ) {run′ other′ : List ℕ} (h : b .«have_separate_output» ≡ true) (lr : length run′ ≡ length run) (lo : length other′ ≡ length other) where
     pub apart-interior : interiorly ≡ true
-        → (glyphs run′ ≡ interior (b .level) (soughtOut (b .level) s (b .«out_len» .0) (b .idx .0) e (glyphs run) (glyphs other)) bits (b .idx .0) e (glyphs run))
-        × (glyphs other′ ≡ interior (b .level) (soughtOut (b .level) s (b .«out_len» .0) (b .idx .0) e (glyphs run) (glyphs other)) bits s (b .«out_len» .0) (glyphs other))
+        → (glyphs run′ ≡ interior (readLevel (b .level)) (soughtOut (readLevel (b .level)) s (b .«out_len» .0) (b .idx .0) e (glyphs run) (glyphs other)) bits (b .idx .0) e (glyphs run))
+        × (glyphs other′ ≡ interior (readLevel (b .level)) (soughtOut (readLevel (b .level)) s (b .«out_len» .0) (b .idx .0) e (glyphs run) (glyphs other)) bits s (b .«out_len» .0) (glyphs other))
         → Acts (flagOut interiorly bits s (e - b .idx .0)) b run other b run′ other′
     unfolding withLimitsOf withLimits stateOf flagOut soughtOut
     apart-interior y g =
         acts-both (v .held) (flagOut interiorly bits s (e - b .idx .0)) lr lo
-        (rw (g .0) (interior-behind (b .level) _ bits (b .len .0) (b .idx .0) e (glyphs run) (v .start) end-fits (v .end)))
-        (rw (g .1) (interior-behind (b .level) _ bits (b .«out_len» .0) s (b .«out_len» .0) (glyphs other) (v .order) (flags-apart .out-fits) (omega arith)))
+        (rw (g .0) (interior-behind (readLevel (b .level)) _ bits (b .len .0) (b .idx .0) e (glyphs run) (v .start) end-fits (v .end)))
+        (rw (g .1) (interior-behind (readLevel (b .level)) _ bits (b .«out_len» .0) s (b .«out_len» .0) (glyphs other) (v .order) (flags-apart .out-fits) (omega arith)))
         (out-apart b (b .limits) run′ other′ (v .output) h
-        ∙ (out-flagged-apart flags-apart bits (stateOf b) (b .level) refl refl (g .0) (g .1) ∙ (ap (flagOutInterior bits s (e - b .idx .0)) (sym (out-apart b (b .limits) run other (v .output) h)) ∙ rw y)))
+        ∙ (out-flagged-apart flags-apart bits (stateOf b) (readLevel (b .level)) refl refl (g .0) (g .1) ∙ (ap (flagOutInterior bits s (e - b .idx .0)) (sym (out-apart b (b .limits) run other (v .output) h)) ∙ rw y)))
 
     pub apart-all : interiorly ≡ false → glyphs run′ ≡ edit (b .idx .0) e (flagged bits) (glyphs run) → glyphs other′ ≡ edit s (b .«out_len» .0) (flagged bits) (glyphs other)
         → Acts (flagOut interiorly bits s (e - b .idx .0)) b run other b run′ other′
@@ -68,20 +68,20 @@ module _ {b : Buffer} {s e : ℕ} {run other : List ℕ} (v : OutFlaggable b s e
 
   module _ {interiorly : Bool} (bits : ℕ) {run′ : List ℕ} (h : b .«have_separate_output» ≡ false) (lr : length run′ ≡ length run) where
     pub within-interior : interiorly ≡ true
-        → glyphs run′ ≡ interior (b .level) (soughtOut (b .level) s (b .«out_len» .0) (b .idx .0) e (glyphs run) (glyphs run)) bits (b .idx .0) e
-        (interior (b .level) (soughtOut (b .level) s (b .«out_len» .0) (b .idx .0) e (glyphs run) (glyphs run)) bits s (b .«out_len» .0) (glyphs run))
+        → glyphs run′ ≡ interior (readLevel (b .level)) (soughtOut (readLevel (b .level)) s (b .«out_len» .0) (b .idx .0) e (glyphs run) (glyphs run)) bits (b .idx .0) e
+        (interior (readLevel (b .level)) (soughtOut (readLevel (b .level)) s (b .«out_len» .0) (b .idx .0) e (glyphs run) (glyphs run)) bits s (b .«out_len» .0) (glyphs run))
         → Acts (flagOut interiorly bits s (e - b .idx .0)) b run other b run′ other
     unfolding withLimitsOf withLimits stateOf flagOut soughtOut
     within-interior y g =
-        let m : ℕ = soughtOut (b .level) s (b .«out_len» .0) (b .idx .0) e (glyphs run) (glyphs run) in
-        let mid : List (Glyph ℕ) = interior (b .level) m bits s (b .«out_len» .0) (glyphs run) in
-        let same : length mid ≡ length (glyphs run) = interior-length (b .level) m bits s (b .«out_len» .0) (glyphs run) (v .order) in
+        let m : ℕ = soughtOut (readLevel (b .level)) s (b .«out_len» .0) (b .idx .0) e (glyphs run) (glyphs run) in
+        let mid : List (Glyph ℕ) = interior (readLevel (b .level)) m bits s (b .«out_len» .0) (glyphs run) in
+        let same : length mid ≡ length (glyphs run) = interior-length (readLevel (b .level)) m bits s (b .«out_len» .0) (glyphs run) (v .order) in
         acts-both (v .held) (flagOut interiorly bits s (e - b .idx .0)) lr refl
-        (rw g (interior-behind (b .level) m bits (b .len .0) (b .idx .0) e mid (v .start) (rw same end-fits) (v .end)
-        ∙ interior-behind (b .level) m bits (b .len .0) s (b .«out_len» .0) (glyphs run) (v .order) (flags-within .out-fits) (out-before h)))
+        (rw g (interior-behind (readLevel (b .level)) m bits (b .len .0) (b .idx .0) e mid (v .start) (rw same end-fits) (v .end)
+        ∙ interior-behind (readLevel (b .level)) m bits (b .len .0) s (b .«out_len» .0) (glyphs run) (v .order) (flags-within .out-fits) (out-before h)))
         refl
         (out-within b (b .limits) run′ other (v .output) h
-        ∙ (out-flagged-within flags-within (low h) bits (stateOf b) (b .level) refl refl refl g ∙ (ap (flagOutInterior bits s (e - b .idx .0)) (sym (out-within b (b .limits) run other (v .output) h)) ∙ rw y)))
+        ∙ (out-flagged-within flags-within (low h) bits (stateOf b) (readLevel (b .level)) refl refl refl g ∙ (ap (flagOutInterior bits s (e - b .idx .0)) (sym (out-within b (b .limits) run other (v .output) h)) ∙ rw y)))
 
     pub within-all : {mid : List (Glyph ℕ)} → interiorly ≡ false → mid ≡ edit s (b .«out_len» .0) (flagged bits) (glyphs run) → glyphs run′ ≡ edit (b .idx .0) e (flagged bits) mid
         → Acts (flagOut interiorly bits s (e - b .idx .0)) b run other b run′ other

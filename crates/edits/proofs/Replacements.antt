@@ -8,7 +8,7 @@ use Rattle.records.specs.{WrongPhase, OutOfRange, BadOperand, OverCapacity, Don
 use Rattle.records.specs.declared.{Glyph.Glyph as Words}
 use Rattle.records.proofs.View.{glyphs-same}
 use Rattle.lists.specs.declared.{Buffer.Buffer, Reply.Reply, Room.the-variants.Fits, Room.the-variants.GivesUp, Room.the-variants.Over}
-use Rattle.lists.specs.{Account.Account, Account.outputPhase, Account.hasOutput, Account.outLen, Account.sized, Account.limiting, Account.withLimits, Contract.MeetsIn, Moving.SyncOutput, Results.refused, Results.refuse_when_else_, State.accountOf, State.goneOf, State.Held, State.roomFor, States.reply, States.withLimitsOf}
+use Rattle.lists.specs.{Account.readLevel, Account.Account, Account.outputPhase, Account.hasOutput, Account.outLen, Account.sized, Account.limiting, Account.withLimits, Contract.MeetsIn, Moving.SyncOutput, Results.refused, Results.refuse_when_else_, State.accountOf, State.goneOf, State.Held, State.roomFor, States.reply, States.withLimitsOf}
 use Rattle.lists.proofs.{Accounts.output-clean, Accounts.output-of, Accounts.held-lengths, Calls.in-refused, Calls.in-call, Accounts.level-of}
 use Rattle.edits.specs.{Acts.Acts, Acts.Writable, Acts.Parted, Acts.Mergeful, Acts.replacing, Merging.merge, Merging.clustersMerge, Replaces.replaced, Replaces.writesReplaced, Writing.model, Writing.replaceGlyphs}
 use Rattle.lists.proofs.Inner.{limits-side, sized-of}
@@ -17,7 +17,7 @@ use Rattle.edits.proofs.Writings.{out-size, rest-first, rest-length, mo
 
 module _ (b : Buffer) (run other : List ℕ) (o : outputPhase (b .phase) ≡ true) where
   -- a merge from the cursor on, counted in the run and counted in the input
-  pub merge-places : (m : ℕ) → merge (clustersMerge (b .level)) (b .idx .0 - goneOf b) (b .idx .0 + m - goneOf b) (accountOf b run other) ≡ merge (clustersMerge ((accountOf b run other) .state .level)) 0 m (accountOf b run other)
+  pub merge-places : (m : ℕ) → merge (clustersMerge (readLevel (b .level))) (b .idx .0 - goneOf b) (b .idx .0 + m - goneOf b) (accountOf b run other) ≡ merge (clustersMerge ((accountOf b run other) .state .level)) 0 m (accountOf b run other)
   merge-places m =
       let g : goneOf b ≡ b .idx .0 = gone-output b o in
       let s : b .idx .0 - goneOf b ≡ 0 = omega arith in
@@ -35,7 +35,7 @@ module _ {b : Buffer} {m n : ℕ} {run other : List ℕ} (v : Writable b m n run
     end = v .roomy .in-len;
   }
 
-  pub inputs-places : merge (clustersMerge (b .level)) (b .idx .0 - goneOf b) (b .idx .0 + m - goneOf b) (accountOf b run other) ≡ merge (clustersMerge ((accountOf b run other) .state .level)) 0 m (accountOf b run other)
+  pub inputs-places : merge (clustersMerge (readLevel (b .level))) (b .idx .0 - goneOf b) (b .idx .0 + m - goneOf b) (accountOf b run other) ≡ merge (clustersMerge ((accountOf b run other) .state .level)) 0 m (accountOf b run other)
   inputs-places = merge-places b run other (v .roomy .output) m
 
   -- limits of the same size change nothing here
@@ -149,6 +149,10 @@ module _ {b : Buffer} {run other : List ℕ} (v : Held b run other) (m : ℕ) (o
   enough : 1 ≤ b .len .0 - b .idx .0 → m ≤ b .len .0 - b .idx .0 → ltb (length ((accountOf b run other) .rest)) (max m 1) ≡ false
   enough h k = le-ltb (length ((accountOf b run other) .rest)) (max m 1) (omega (arith, rest-length v o))
 
+  -- what is left after the tests: there are l numbers, and n of them are asked for
+  pub tests-leave : {n x l : ℕ} → 1 ≤ b .len .0 - b .idx .0 → m ≤ b .len .0 - b .idx .0 → x ≡ l → n ≤ x → (SyncOutput b run other) × (b .idx .0 + m ≤ b .len .0) × (b .idx .0 < b .len .0) × (n ≤ l)
+  tests-leave h k e j = (record { held = v; output = o }, omega (arith, v .idx-in), omega arith, omega arith)
+
 module _ {b : Buffer} {run other : List ℕ} {r : Reply} (v : Held b run other) (m n : ℕ) (gs : List ℕ) where
   pub replace-in-none : outputPhase (b .phase) ≡ false → r ≡ reply b (No WrongPhase) → MeetsIn (λ capacity a. replaceGlyphs capacity m n gs a) b run other r run other
   replace-in-none h er = in-refused WrongPhase (replace-none _ m n gs _ (output-of b run other ∙ h)) v er
@@ -161,8 +165,8 @@ module _ {b : Buffer} {run other : List ℕ} {r : Reply} (v : Held b run other) 
     replace-in-few h er = in-refused OutOfRange (replace-outside _ m n gs _ (output-of b run other ∙ o) (few v m o (omega arith))) v er
 
     module _ (h : 1 ≤ b .len .0 - b .idx .0) (k : m ≤ b .len .0 - b .idx .0) where
-      pub replace-in-short : length gs < n → r ≡ reply b (No BadOperand) → MeetsIn (λ capacity a. replaceGlyphs capacity m n gs a) b run other r run other
-      replace-in-short j er = in-refused BadOperand (replace-short _ m n gs _ (output-of b run other ∙ o) (enough v m o h k) (lt-ltb (length gs) n j)) v er
+      pub replace-in-short : {x : ℕ} → x ≡ length gs → x < n → r ≡ reply b (No BadOperand) → MeetsIn (λ capacity a. replaceGlyphs capacity m n gs a) b run other r run other
+      replace-in-short e j er = in-refused BadOperand (replace-short _ m n gs _ (output-of b run other ∙ o) (enough v m o h k) (lt-ltb (length gs) n (omega arith))) v er
 
-      pub replace-in-writes : {run′ other′ : List ℕ} → n ≤ length gs → MeetsIn (λ capacity a. writesReplaced m n gs capacity a) b run other r run′ other′ → MeetsIn (λ capacity a. replaceGlyphs capacity m n gs a) b run other r run′ other′
-      replace-in-writes j w = in-call (replace-writes _ m n gs _ (output-of b run other ∙ o) (enough v m o h k) (le-ltb (length gs) n j)) w
+      pub replace-in-writes : {run′ other′ : List ℕ} {x : ℕ} → x ≡ length gs → n ≤ x → MeetsIn (λ capacity a. writesReplaced m n gs capacity a) b run other r run′ other′ → MeetsIn (λ capacity a. replaceGlyphs capacity m n gs a) b run other r run′ other′
+      replace-in-writes e j w = in-call (replace-writes _ m n gs _ (output-of b run other ∙ o) (enough v m o h k) (le-ltb (length gs) n (omega arith))) w

@@ -6,7 +6,7 @@ use borrow.Author.Tests.{le-ltb, lt-ltb}
 use lib.{Dec.ltb, ListN.length, ListN.take}
 use Rattle.records.specs.{Phase, Plain, Output, Positions, Spoiled, WrongPhase, BadOperand, Done, No, Ranges.is, View.glyphs, View.placements, View.wordsFrom}
 use Rattle.lists.specs.declared.{Buffer.Buffer, Reply.Reply}
-use Rattle.lists.specs.{Account.Account, Account.outputPhase, Account.positionsPhase, Account.spoiledPhase, Account.withGone, Contract.MeetsIn, Results.refused, Results.accepted, Results.refuse_when_else_, State.shown, State.stateOf, State.accountOf, State.Held, States.reply, States.atPlaces, States.withLimitsOf, States.openedBuffer}
+use Rattle.lists.specs.{Account.readLevel, Account.Account, Account.outputPhase, Account.positionsPhase, Account.spoiledPhase, Account.withGone, Contract.MeetsIn, Results.refused, Results.accepted, Results.refuse_when_else_, State.shown, State.stateOf, State.accountOf, State.Held, States.reply, States.atPlaces, States.withLimitsOf, States.openedBuffer}
 use Rattle.lists.proofs.{Accounts.held-lengths, Calls.in-refused}
 use Rattle.edits.specs.{Acts.Acts, Deleting.deletedEach, Deleting.keptRun, Deleting.deleteGlyphsInplace, Underway.pairing, Underway.underway, Underway.sifted, Underway.Siftable, Underway.Sifts, WholeRun.notWhole, Wholes.WholeInput}
 use Rattle.lists.proofs.Outputs.{output}
@@ -117,7 +117,7 @@ module _ {b : Buffer} {run other : List ℕ} (w : WholeInput b run other) where
   opened-is =
       let p : phaseOf (positionsPhase (b .phase)) ≡ b .phase = phase-known (b .phase) (w .plain) (w .clean) in
       let s : pairing (positionsPhase (b .phase)) (glyphs run) (placements other) ≡ shown (b .phase) run other = shown-known (b .phase) run other (w .plain) (w .clean) in
-      same-account refl refl (ap (take (b .len .0)) s) (λ x. record { phase = p x; gone = sym (whole-gone w) x; limits = b .limits; level = b .level; wants = b .wants }) ∙ sym (account-whole w)
+      same-account refl refl (ap (take (b .len .0)) s) (λ x. record { phase = p x; gone = sym (whole-gone w) x; limits = b .limits; level = readLevel (b .level); wants = b .wants }) ∙ sym (account-whole w)
 
   module _ (slot mask value : ℕ) {q d : Buffer} {run′ other′ : List ℕ} {t : Bool} (et : t ≡ positionsPhase (b .phase)) (eq : q ≡ openedBuffer b) (u : Sifts (deletedEach slot mask value (q .len .0 - q .idx .0)) t q run other d run′ other′)
       (lr : length run′ ≡ length run) (lo : length other′ ≡ length other) where
@@ -162,7 +162,7 @@ module _ {b : Buffer} {run other : List ℕ} (w : WholeInput b run other) where
         let el : b .level ≡ d .level = sym (level-is q (d .idx .0) (q .len .0) (d .«out_len» .0) (u .places) ∙ ap (λ (x : Buffer). x .level) eq) in
         let ew : b .wants ≡ d .wants = sym (wants-is q (d .idx .0) (q .len .0) (d .«out_len» .0) (u .places) ∙ ap (λ (x : Buffer). x .wants) eq) in
         account-whole result-whole
-        ∙ same-account refl refl (ap (take (d .«out_len» .0)) (sym s)) (λ x. record { phase = sym p x; gone = whole-gone result-whole x; limits = d .limits; level = el x; wants = ew x })
+        ∙ same-account refl refl (ap (take (d .«out_len» .0)) (sym s)) (λ x. record { phase = sym p x; gone = whole-gone result-whole x; limits = d .limits; level = readLevel (el x); wants = ew x })
 
     pub delete-each-acts : {r : Buffer} {l : Buffer} → l ≡ withLimitsOf (d .limits) b → r ≡ atPlaces 0 (d .«out_len» .0) 0 l → Acts (λ a. keptRun (deletedEach slot mask value (length (a .rest)) a)) b run other r run′ other′
     unfolding atPlaces withLimitsOf openedBuffer

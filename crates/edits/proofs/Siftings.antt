@@ -7,7 +7,7 @@ use lib.{ListN.length, ListN.take, ListN.drop, ListN.getD, ListN.set, Seq.slice,
 use Rattle.records.specs.{Phase, Plain, Positions, Position, Glyphs.Glyph, Glyphs.blank, Glyphs.key, Glyphs.zeroPosition, Ranges.infos, Ranges.is, View.glyphs, View.placements, View.zeroGlyph}
 use Rattle.records.proofs.View.{glyphs-same, placements-glyphs, whole-same, beyond-glyphs, beyond-placements}
 use Rattle.lists.specs.declared.{Buffer.Buffer}
-use Rattle.lists.specs.{Account.Account, Account.outputPhase, Account.inPhase, Account.withGone, Copied.copied, State.accountOf, State.Held, States.atPlaces, States.withLimitsOf}
+use Rattle.lists.specs.{Account.readLevel, Account.Account, Account.outputPhase, Account.inPhase, Account.withGone, Copied.copied, State.accountOf, State.Held, States.atPlaces, States.withLimitsOf}
 use Rattle.lists.proofs.{Accounts.held-lengths, Copying.copied-none, Copying.copied-more, Copying.take-copied, Copying.drop-copied, Copying.take-range, Copying.range-same}
 use Rattle.edits.specs.{Acts.Acts, Deletes.Deletable, Deleting.current, Deleting.deleted, Deleting.kept, Underway.pairing, Underway.underway, Underway.sifted, Underway.Siftable, Underway.Sifts}
 use Rattle.lists.proofs.Outputs.{output, output-account}
@@ -175,7 +175,7 @@ module _ (t : Bool) {b : Buffer} {run other : List ℕ} (v : Siftable b run othe
         let gone : i + 1 - (o + 1) ≡ i - o = omega arith in
         let done : take (o + 1) (pairing t (glyphs run′) (placements other′)) ≡ take o l ++ take 1 (slice i n l) = ap (take (o + 1)) here ∙ set-done zeroGlyph l i o inside low n some in
         let rest : slice (i + 1) n (pairing t (glyphs run′) (placements other′)) ≡ drop 1 (slice i n l) = ap (slice (i + 1) n) here ∙ set-rest zeroGlyph l i o inside low n in
-        same-account done refl rest (λ x. record { phase = phaseOf t; gone = gone x; limits = b .limits; level = b .level; wants = b .wants })
+        same-account done refl rest (λ x. record { phase = phaseOf t; gone = gone x; limits = b .limits; level = readLevel (b .level); wants = b .wants })
 
     kept-run : drop (b .limits .allocated) (glyphs run′) ≡ drop (b .limits .allocated) (glyphs run)
     kept-run = ap (drop (b .limits .allocated)) er ∙ set-beyond zeroGlyph (glyphs run) (b .idx .0) (b .«out_len» .0) (room v some .0) (sift-low v) (b .limits .allocated) (omega (arith, sift-low v, some, v .held .len-in))

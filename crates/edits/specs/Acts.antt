@@ -1,7 +1,7 @@
 -- What the functions below the exported edits ask for and do.
-use mathlib.Core.{Path._≡_, Bool.true, Bool.false, List.List, List.[], List._∷_}
+use mathlib.Core.{Path._≡_, Bool.true, Bool.false, List.List, List.[], List._∷_, List._++_}
 use Prim.Native.Nat.{ℕ, _+_, _≤_}
-use Rattle.records.specs.{Glyphs.Info, Ranges.copies, View.wordsFrom}
+use Rattle.records.specs.{Bytes.wordsOf, Glyphs.Info, Ranges.copies, View.wordsFrom}
 use Rattle.lists.specs.declared.{Buffer.Buffer}
 use Rattle.lists.specs.{Account.Account, Account.outputPhase, Account.spoiledPhase, Account.outLen, Account.sized, Results.Result, Cursor.dropping, State.accountOf, State.Held, State.goneOf}
 use Rattle.edits.specs.Writing.{written, writing}
@@ -32,6 +32,10 @@ pub record Parted (b : Buffer) (num-in num-out : ℕ) (run other : List ℕ) (r 
   pub acts : Acts (λ a. a) b run other r run other′
   pub places : (r .idx ≡ b .idx) × (r .len ≡ b .len) × (r .«out_len» ≡ b .«out_len») × (r .phase ≡ b .phase) × (r .limits ≡ b .limits) × (r .level ≡ b .level)
   pub behind : r .«have_separate_output» ≡ false → b .«out_len» .0 + num-out ≤ b .idx .0 + num-in
+
+-- glyph numbers that are given as numbers, then as bytes
+abbrev pub given : List ℕ → List ℕ → List ℕ
+given numbers bytes = numbers ++ wordsOf bytes
 
 -- copies with these words and numbers, in place of num-in of the input
 unfoldable pub replacing : Info → List ℕ → ℕ → Account ℕ → Account ℕ

@@ -4,7 +4,7 @@ use Prim.Native.Nat.{ℕ, _-_}
 use lib.{ListN.take, Seq.slice}
 use Rattle.records.specs.{Plain, Positions, Position, Glyphs.Glyph, Glyphs.key, Ranges.is, View.glyphs, View.placements, View.paired, View.wordsFrom}
 use Rattle.lists.specs.declared.{Buffer.Buffer}
-use Rattle.lists.specs.{Account.Account, Account.outputPhase, State.Held, States.atPlaces, States.withLimitsOf}
+use Rattle.lists.specs.{Account.readLevel, Account.Account, Account.outputPhase, State.Held, States.atPlaces, States.withLimitsOf}
 use Rattle.edits.specs.Deleting.{current, deleted, kept}
 
 -- the glyphs, each with its position where there are positions
@@ -17,7 +17,7 @@ underway positions b run other = record {
   done = take (b .«out_len» .0) (pairing positions (glyphs run) (placements other));
   passed = [];
   rest = slice (b .idx .0) (b .len .0) (pairing positions (glyphs run) (placements other));
-  state = record { phase = cond positions Positions Plain; gone = b .idx .0 - b .«out_len» .0; limits = b .limits; level = b .level; wants = b .wants };
+  state = record { phase = cond positions Positions Plain; gone = b .idx .0 - b .«out_len» .0; limits = b .limits; level = readLevel (b .level); wants = b .wants };
 }
 
 -- what becomes of the glyph at the cursor

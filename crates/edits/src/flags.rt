@@ -4,14 +4,23 @@ ghost use mathlib.Core.Bool.{_&&_, _||_};
 ghost use Prim.Native.Nat.{_≤_, _<_, min};
 ghost use lib.ListN.{length};
 ghost use lib.Seq.{slice};
-ghost use Rattle.records.specs.Ranges.{clusters, is, isnt};
+ghost use Rattle.records.specs.Ranges.{clusters, isnt};
 ghost use Rattle.records.specs.View.{glyphs};
-ghost use Rattle.edits.specs.Flags.{interior, sought};
+ghost use Rattle.lists.specs.Account.{readLevel};
+ghost use Rattle.edits.specs.Flags.{interior, sought, seeksAll};
+use lists::state;
+
+// Whether the least cluster is sought in the whole range.
+fn seeks_all(level: u32) -> bool
+    ensures { λ r. ⌜ r ≡ seeksAll (readLevel level) ⌝ }
+{
+    state::read_level(level) == 2
+}
 
 fn marks_all(level: u32, first: u32, last: u32, cluster: u32) -> bool
-    ensures { λ r. ⌜ r ≡ (is 2 level || (isnt cluster first && isnt cluster last)) ⌝ }
+    ensures { λ r. ⌜ r ≡ (seeksAll (readLevel level) || (isnt cluster first && isnt cluster last)) ⌝ }
 {
-    if level == 2 {
+    if seeks_all(level) {
         return true;
     }
     if first == cluster {
@@ -23,7 +32,7 @@ fn marks_all(level: u32, first: u32, last: u32, cluster: u32) -> bool
 // The interior form of a flag over a range, for a cluster that was sought.
 pub fn mark_interior(ws: &mut [u32], level: u32, cluster: u32, bits: u32, s: usize, e: usize)
     requires { ⌜ (s < e) × (e ≤ length (glyphs (now ws))) ⌝ }
-    ensures { λ r. ⌜ glyphs (now (ws .exit)) ≡ interior level cluster bits s e (glyphs (now (ws .entry))) ⌝ }
+    ensures { λ r. ⌜ glyphs (now (ws .exit)) ≡ interior (readLevel level) cluster bits s e (glyphs (now (ws .entry))) ⌝ }
 {
     let first = records::glyphs::cluster_at(ws, s);
     let last = records::glyphs::cluster_at(ws, e - 1);
@@ -49,9 +58,9 @@ pub fn lesser(a: u32, b: u32) -> u32
 // The cluster that a flag form seeks in a range.
 pub fn sought_cluster(ws: &[u32], level: u32, s: usize, e: usize) -> u32
     requires { ⌜ (s < e) × (e ≤ length (glyphs (now ws))) ⌝ }
-    ensures { λ r. ⌜ r ≡ sought level (slice s e (clusters (glyphs (now (ws .entry))))) ⌝ }
+    ensures { λ r. ⌜ r ≡ sought (readLevel level) (slice s e (clusters (glyphs (now (ws .entry))))) ⌝ }
 {
-    if level == 2 {
+    if seeks_all(level) {
         return lists::ranges::least_cluster(ws, s, e);
     }
     let first = records::glyphs::cluster_at(ws, s);
@@ -61,7 +70,7 @@ pub fn sought_cluster(ws: &[u32], level: u32, s: usize, e: usize) -> u32
 // The interior form of a flag over a range, for the cluster that it seeks there.
 pub fn flag_range(ws: &mut [u32], level: u32, bits: u32, s: usize, e: usize)
     requires { ⌜ (s < e) × (e ≤ length (glyphs (now ws))) ⌝ }
-    ensures { λ r. ⌜ glyphs (now (ws .exit)) ≡ interior level (sought level (slice s e (clusters (glyphs (now (ws .entry)))))) bits s e (glyphs (now (ws .entry))) ⌝ }
+    ensures { λ r. ⌜ glyphs (now (ws .exit)) ≡ interior (readLevel level) (sought (readLevel level) (slice s e (clusters (glyphs (now (ws .entry)))))) bits s e (glyphs (now (ws .entry))) ⌝ }
 {
     let m = sought_cluster(ws, level, s, e);
     mark_interior(ws, level, m, bits, s, e);

@@ -13,6 +13,7 @@ pub mod lent;
 pub mod marking;
 pub mod merges;
 pub mod merging;
+mod numbers;
 pub mod propagating;
 pub mod relabeling;
 pub mod replacing;

@@ -3,7 +3,7 @@ ghost use mathlib.Core.Path.{_≡_};
 ghost use mathlib.Core.Bool.{false, _&&_, _||_};
 ghost use Prim.Native.Nat.{_-_, _≤_};
 ghost use lib.Dec.{ltb};
-ghost use Rattle.lists.specs.Account.{outputPhase};
+ghost use Rattle.lists.specs.Account.{outputPhase, readLevel};
 ghost use Rattle.lists.specs.State.{Held, goneOf};
 ghost use Rattle.lists.specs.States.{withLimitsOf};
 ghost use Rattle.lists.specs.Contract.{Meets, MeetsIn};
@@ -74,18 +74,19 @@ pub fn merge_at(
 }
 
 pub fn clusters_merge(level: u32) -> bool
-    ensures { λ r. ⌜ r ≡ clustersMerge level ⌝ }
+    ensures { λ r. ⌜ r ≡ clustersMerge (readLevel level) ⌝ }
 {
-    level <= 1
+    state::read_level(level) <= 1
 }
 
 pub fn graphemes_merge(level: u32) -> bool
-    ensures { λ r. ⌜ r ≡ graphemesMerge level ⌝ }
+    ensures { λ r. ⌜ r ≡ graphemesMerge (readLevel level) ⌝ }
 {
-    if level == 0 {
+    let known = state::read_level(level);
+    if known == 0 {
         return true;
     }
-    level == 3
+    known == 3
 }
 
 // The merge of clusters that another call makes on its way.
@@ -97,7 +98,7 @@ pub fn merge_clusters_at(
     e: usize,
 ) -> Buffer
     requires { ⌜ Mergeful b s e (now run) (now other) ⌝ }
-    ensures { λ r. ⌜ (Acts (merge (clustersMerge (b .level)) (s - goneOf b) (e - goneOf b)) b (now (run .entry)) (now (other .entry)) r (now (run .exit)) (now (other .exit))) × (r ≡ withLimitsOf (r .limits) b) × ((outputPhase (b .phase) && b .«have_separate_output») ≡ false → now (other .exit) ≡ now (other .entry)) ⌝ }
+    ensures { λ r. ⌜ (Acts (merge (clustersMerge (readLevel (b .level))) (s - goneOf b) (e - goneOf b)) b (now (run .entry)) (now (other .entry)) r (now (run .exit)) (now (other .exit))) × (r ≡ withLimitsOf (r .limits) b) × ((outputPhase (b .phase) && b .«have_separate_output») ≡ false → now (other .exit) ≡ now (other .entry)) ⌝ }
 {
     let merges = clusters_merge(b.level);
     merge_at(b, run, other, merges, s, e)

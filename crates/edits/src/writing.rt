@@ -12,7 +12,8 @@ ghost use Rattle.lists.specs.State.{Held};
 ghost use Rattle.lists.specs.Moving.{SyncOutput};
 ghost use Rattle.lists.specs.Contract.{Meets, MeetsIn};
 ghost use Rattle.edits.specs.Writing.{writing, copyGlyph, outputGlyph, outputInfo, replaceGlyphs};
-ghost use Rattle.edits.specs.Acts.{Acts, Roomy, Writable, Parted, replacing, writesOne};
+ghost use Rattle.edits.specs.Acts.{Acts, Roomy, Writable, Parted, replacing, writesOne, given};
+use super::numbers::number_at;
 use lists::Buffer;
 use lists::Reply;
 use lists::Room;
@@ -30,13 +31,13 @@ fn numbered(g: Glyph, number: u32) -> Glyph
 }
 
 // A glyph for each of the first n numbers, from place `at` on, with the other words of g.
-fn put_copies(ws: &mut [u32], at: usize, g: Glyph, numbers: &[u32], n: usize)
-    requires { ⌜ (at + n ≤ length (glyphs (now ws))) × (n ≤ length (now numbers)) ⌝ }
-    ensures { λ r. ⌜ glyphs (now (ws .exit)) ≡ copied (glyphs (now (ws .entry))) at (copies (seen g .info) (now (numbers .entry))) 0 n ⌝ }
+fn put_copies(ws: &mut [u32], at: usize, g: Glyph, numbers: &[u32], bytes: &[u8], n: usize)
+    requires { ⌜ (at + n ≤ length (glyphs (now ws))) × (n ≤ length (given (now numbers) (now bytes))) ⌝ }
+    ensures { λ r. ⌜ glyphs (now (ws .exit)) ≡ copied (glyphs (now (ws .entry))) at (copies (seen g .info) (given (now (numbers .entry)) (now (bytes .entry)))) 0 n ⌝ }
 {
     let mut i = 0;
     while i < n {
-        records::glyphs::put(ws, at + i, numbered(g, numbers[i]));
+        records::glyphs::put(ws, at + i, numbered(g, number_at(numbers, bytes, i)));
         i += 1;
     }
 }
@@ -70,18 +71,19 @@ pub fn write_copies(
     other: &mut [u32],
     g: Glyph,
     numbers: &[u32],
+    bytes: &[u8],
     num_in: usize,
     num_out: usize,
 ) -> Buffer
-    requires { ⌜ (Writable b «num_in» «num_out» (now run) (now other)) × («num_out» ≤ length (now numbers)) ⌝ }
-    ensures { λ r. ⌜ Acts (replacing (seen g .info) (take «num_out» (now (numbers .entry))) «num_in») b (now (run .entry)) (now (other .entry)) r (now (run .exit)) (now (other .exit)) ⌝ }
+    requires { ⌜ (Writable b «num_in» «num_out» (now run) (now other)) × («num_out» ≤ length (given (now numbers) (now bytes))) ⌝ }
+    ensures { λ r. ⌜ Acts (replacing (seen g .info) (take «num_out» (given (now (numbers .entry)) (now (bytes .entry)))) «num_in») b (now (run .entry)) (now (other .entry)) r (now (run .exit)) (now (other .exit)) ⌝ }
 {
     let at = b.out_len.0;
     if b.have_separate_output {
-        put_copies(other, at, g, numbers, num_out);
+        put_copies(other, at, g, numbers, bytes, num_out);
         return state::at_places(b, b.idx.0 + num_in, b.len.0, at + num_out);
     }
-    put_copies(run, at, g, numbers, num_out);
+    put_copies(run, at, g, numbers, bytes, num_out);
     state::at_places(b, b.idx.0 + num_in, b.len.0, at + num_out)
 }
 
@@ -97,7 +99,7 @@ fn write_one(b: Buffer, run: &mut [u32], other: &mut [u32], g: Glyph, number: u3
             let grown = state::with_limits(b, records::counters::grow(b.limits, size));
             let parted = make_room_for(grown, run, other, 0, 1);
             let one = [number];
-            state::accepted(write_copies(parted, run, other, g, &one, 0, 1))
+            state::accepted(write_copies(parted, run, other, g, &one, &[], 0, 1))
         }
         Room::GivesUp => state::accepted(state::with_limits(b, records::counters::fail(b.limits))),
         Room::Over => state::refusal(b, Refusal::OverCapacity),

@@ -1,15 +1,13 @@
-use mathlib.Core.Path.{sym, _∙_}
-use Rattle.lists.proofs.Accounts.{sound-held, held-turned}
-use Rattle.lists.proofs.Calls.{shell-first, shell-second, shell-unsound}
+use Rattle.edits.proofs.GivenLaws.{given-none}
 use borrow.Author.Needs.{needs}
 use Rattle.edits.proofs.replacing.replace_glyphs.Statement.{statement}
 use Rattle.edits.proofs.replacing.replace_glyphs.Tie as tie
 
-is-sound-requires : tie.Need-is-sound-requires
-is-sound-requires c κs = search needs
+slice-aggregate-replace-by : tie.Need-slice-aggregate-replace-by
+slice-aggregate-replace-by c = search needs
 
-replace-in-requires : tie.Need-replace-in-requires
-replace-in-requires c κs = held-turned _ _ _ (sound-held _ _ _ (sym (c .before .before .before .before .is-sound .ensures) ∙ c .before .before .before .if1 .taken))
+replace-by-requires : tie.Need-replace-by-requires
+replace-by-requires c κs = search needs
 
 same-length : tie.Need-same-length
 same-length c = search needs
@@ -18,46 +16,9 @@ same-length-2 : tie.Need-same-length-2
 same-length-2 c = search needs
 
 returns : tie.Need-returns
-returns c = let call = c .before .before .before .before .replace-in in shell-second (sym (c .before .before .before .before .before .before .before .before .before .is-sound .ensures) ∙ c .before .before .before .before .before .before .before .before .if1 .taken) (call .kept .1 .1 .0) (call .kept .1 .0) (c .before .before .before .before .before .before .before .if2 .taken) (call .ensures)
-
-replace-in-requires-2 : tie.Need-replace-in-requires-2
-replace-in-requires-2 c κs = sound-held _ _ _ (sym (c .before .before .before .before .is-sound .ensures) ∙ c .before .before .before .if1 .taken)
-
-same-length-3 : tie.Need-same-length-3
-same-length-3 c = search needs
-
-same-length-4 : tie.Need-same-length-4
-same-length-4 c = search needs
-
-returns-2 : tie.Need-returns-2
-returns-2 c = let call = c .before .before .before .before .replace-in2 in shell-first (sym (c .before .before .before .before .before .before .before .before .before .is-sound .ensures) ∙ c .before .before .before .before .before .before .before .before .if1 .taken) (call .kept .1 .0) (call .kept .1 .1 .0) (c .before .before .before .before .before .before .before .if2 .left) (call .ensures)
-
-refusal-requires : tie.Need-refusal-requires
-refusal-requires c κs = search needs
-
-same-length-5 : tie.Need-same-length-5
-same-length-5 c = search needs
-
-same-length-6 : tie.Need-same-length-6
-same-length-6 c = search needs
-
-returns-3 : tie.Need-returns-3
-returns-3 c = shell-unsound (sym (c .before .before .is-sound .ensures) ∙ c .before .if1 .left) (c .refusal .ensures)
+returns c = rw given-none at (c .before .before .before .before .replace-by .ensures)
 
 pub replace-glyphs-spec : {M : Type 1} → statement M
 replace-glyphs-spec =
     tie.close
-    (tie.spec
-    is-sound-requires
-    replace-in-requires
-    same-length
-    same-length-2
-    returns
-    replace-in-requires-2
-    same-length-3
-    same-length-4
-    returns-2
-    refusal-requires
-    same-length-5
-    same-length-6
-    returns-3)
+    (tie.spec slice-aggregate-replace-by replace-by-requires same-length same-length-2 returns)

@@ -7,13 +7,13 @@ add-merge-clusters-at : tie.Need-add-merge-clusters-at
 add-merge-clusters-at c = search needs
 
 merge-clusters-at-requires : tie.Need-merge-clusters-at-requires
-merge-clusters-at-requires c κs = inputs-mergeful (c .before .before .before .before .before .pre .0)
+merge-clusters-at-requires c κs = search inputs-mergeful
 
 get-requires : tie.Need-get-requires
-get-requires c κs = merged-room (c .before .before .before .before .before .before .before .before .before .before .before .pre .0) (c .before .before .before .before .before .merge-clusters-at .ensures .0, c .before .before .before .before .before .merge-clusters-at .ensures .1) (c .before .before .before .before .before .merge-clusters-at .kept .1 .0) (c .before .before .before .before .before .merge-clusters-at .kept .1 .1 .0) (c .before .before .before .before .before .before .before .before .before .before .before .pre .1)
+get-requires c κs = let m = c .before .before .before .before .before .merge-clusters-at in let p = c .before .before .before .before .before .before .before .before .before .before .before .before .pre in merged-room (p .0) (m .ensures .0, m .ensures .1) (m .kept .1 .0) (m .kept .1 .1 .0) (p .1)
 
 write-copies-requires : tie.Need-write-copies-requires
-write-copies-requires c κs = (merged-writable (c .before .before .before .before .before .before .before .before .before .before .before .before .before .before .pre .0) (c .before .before .before .before .before .before .before .before .merge-clusters-at .ensures .0, c .before .before .before .before .before .before .before .before .merge-clusters-at .ensures .1) (c .before .before .before .before .before .before .before .before .merge-clusters-at .kept .1 .0) (c .before .before .before .before .before .before .before .before .merge-clusters-at .kept .1 .1 .0), c .before .before .before .before .before .before .before .before .before .before .before .before .before .before .pre .2)
+write-copies-requires c κs = let m = c .before .before .before .before .before .before .before .before .merge-clusters-at in let p = c .before .before .before .before .before .before .before .before .before .before .before .before .before .before .before .pre in (merged-writable (p .0) (m .ensures .0, m .ensures .1) (m .kept .1 .0) (m .kept .1 .1 .0), p .2)
 
 same-length : tie.Need-same-length
 same-length c = search needs
@@ -22,7 +22,7 @@ same-length-2 : tie.Need-same-length-2
 same-length-2 c = search needs
 
 returns : tie.Need-returns
-returns c = merged-replaced (c .before .before .before .before .before .before .before .before .before .before .before .before .before .before .before .before .before .before .before .pre .0) (c .before .before .before .before .before .before .before .before .before .before .before .before .before .merge-clusters-at .ensures .0, c .before .before .before .before .before .before .before .before .before .before .before .before .before .merge-clusters-at .ensures .1) (c .before .before .before .before .before .before .before .before .before .before .before .before .before .merge-clusters-at .kept .1 .0) (c .before .before .before .before .before .before .before .before .before .before .before .before .before .merge-clusters-at .kept .1 .1 .0) (c .before .before .before .before .before .before .before .before .before .before .before .before .before .before .before .before .before .before .before .pre .1) (inputs-places (c .before .before .before .before .before .before .before .before .before .before .before .before .before .before .before .before .before .before .before .pre .0)) _ _ (c .before .before .before .before .before .before .before .get .ensures) (c .before .before .before .before .write-copies .ensures)
+returns c = let m = c .before .before .before .before .before .before .before .before .before .before .before .before .before .merge-clusters-at in let p = c .before .before .before .before .before .before .before .before .before .before .before .before .before .before .before .before .before .before .before .before .pre in merged-replaced (p .0) (m .ensures .0, m .ensures .1) (m .kept .1 .0) (m .kept .1 .1 .0) (p .1) (inputs-places (p .0)) _ _ (c .before .before .before .before .before .before .before .get .ensures) (c .before .before .before .before .write-copies .ensures)
 
 pub replace-merged-spec : {M : Type 1} → statement M
 replace-merged-spec =

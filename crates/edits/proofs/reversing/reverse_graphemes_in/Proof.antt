@@ -19,6 +19,9 @@ refusal-requires-2 c κs = search needs
 returns-2 : tie.Need-returns-2
 returns-2 c = in-graphemes-bad (whole-input (c .before .before .before .before .before .before .pre) (c .before .before .before .not-whole .ensures) (c .before .before .if1 .left)) _ _ (c .before .if2 .taken) (c .refusal2 .ensures)
 
+read-level-requires : tie.Need-read-level-requires
+read-level-requires c κs = search needs
+
 merge-each-requires : tie.Need-merge-each-requires
 merge-each-requires c κs = whole-input (c .before .before .before .before .before .before .before .before .before .pre) (c .before .before .before .before .before .before .not-whole .ensures) (c .before .before .before .before .before .if1 .left)
 
@@ -42,7 +45,7 @@ returns-3 c =
     let each = c .before .before .before .before .before .before .before .before .before .before .before .before .merge-each in
     let turn = c .before .before .before .before .before .turn-graphemes in
     let w = whole-input (c .before .before .before .before .before .before .before .before .before .before .before .before .before .before .before .before .before .before .before .before .before .before .pre) (c .before .before .before .before .before .before .before .before .before .before .before .before .before .before .before .before .before .before .before .not-whole .ensures) (c .before .before .before .before .before .before .before .before .before .before .before .before .before .before .before .before .before .before .if1 .left) in
-    in-graphemes-merged w _ _ (c .before .before .before .before .before .before .before .before .before .before .before .before .before .before .before .before .before .if2 .left) (c .before .before .before .before .before .before .before .before .before .before .before .before .before .before .before .if3 .taken) (each .ensures .0) (each .ensures .1) (each .kept .1 .0) (each .kept .1 .1 .0) (turn .ensures) (turn .kept .1 .0) (turn .kept .1 .1 .0) (c .accepted .ensures)
+    in-graphemes-merged w _ _ (c .before .before .before .before .before .before .before .before .before .before .before .before .before .before .before .before .before .if2 .left) (c .before .before .before .before .before .before .before .before .before .before .before .before .before .before .before .before .read-level .ensures) (c .before .before .before .before .before .before .before .before .before .before .before .before .before .before .before .if3 .taken) (each .ensures .0) (each .ensures .1) (each .kept .1 .0) (each .kept .1 .1 .0) (turn .ensures) (turn .kept .1 .0) (turn .kept .1 .1 .0) (c .accepted .ensures)
 
 turn-graphemes-requires-2 : tie.Need-turn-graphemes-requires-2
 turn-graphemes-requires-2 c κs = whole-input (c .before .before .before .before .before .before .before .before .before .pre) (c .before .before .before .before .before .before .not-whole .ensures) (c .before .before .before .before .before .if1 .left)
@@ -60,7 +63,7 @@ returns-4 : tie.Need-returns-4
 returns-4 c =
     let turn = c .before .before .before .before .before .turn-graphemes2 in
     let w = whole-input (c .before .before .before .before .before .before .before .before .before .before .before .before .before .before .before .pre) (c .before .before .before .before .before .before .before .before .before .before .before .before .not-whole .ensures) (c .before .before .before .before .before .before .before .before .before .before .before .if1 .left) in
-    in-graphemes-plain w _ _ (c .before .before .before .before .before .before .before .before .before .before .if2 .left) (c .before .before .before .before .before .before .before .before .if3 .left) (turn .kept .1 .0) (turn .kept .1 .1 .0) (turn .ensures) (c .accepted2 .ensures)
+    in-graphemes-plain w _ _ (c .before .before .before .before .before .before .before .before .before .before .if2 .left) (c .before .before .before .before .before .before .before .before .before .read-level .ensures) (c .before .before .before .before .before .before .before .before .if3 .left) (turn .kept .1 .0) (turn .kept .1 .1 .0) (turn .ensures) (c .accepted2 .ensures)
 
 pub reverse-graphemes-in-spec : {M : Type 1} → statement M
 reverse-graphemes-in-spec =
@@ -71,6 +74,7 @@ reverse-graphemes-in-spec =
     returns
     refusal-requires-2
     returns-2
+    read-level-requires
     merge-each-requires
     turn-graphemes-requires
     accepted-requires

@@ -1,10 +1,10 @@
-use Rattle.edits.proofs.Acting.{write-room, write-apart, write-within}
+use Rattle.edits.proofs.Acting.{write-room-run, write-room-other, write-apart, write-within}
 use borrow.Author.Needs.{needs}
 use Rattle.edits.proofs.writing.write_copies.Statement.{statement}
 use Rattle.edits.proofs.writing.write_copies.Tie as tie
 
 put-copies-requires : tie.Need-put-copies-requires
-put-copies-requires c κs = (write-room (c .before .before .before .before .before .pre .0) .1, c .before .before .before .before .before .pre .1)
+put-copies-requires c κs = search write-room-other
 
 add-at-places : tie.Need-add-at-places
 add-at-places c = search needs
@@ -19,10 +19,10 @@ same-length : tie.Need-same-length
 same-length c = search needs
 
 returns : tie.Need-returns
-returns c = write-apart (c .before .before .before .before .before .before .before .before .before .before .pre .0) _ _ (c .before .before .before .before .before .before .before .before .before .before .pre .1) (c .before .before .before .before .before .before .if1 .taken) (c .before .before .before .before .put-copies .ensures) (c .before .before .before .before .put-copies .kept .0) (c .at-places .ensures)
+returns c = search write-apart
 
 put-copies-requires-2 : tie.Need-put-copies-requires-2
-put-copies-requires-2 c κs = (write-room (c .before .before .before .before .before .pre .0) .0, c .before .before .before .before .before .pre .1)
+put-copies-requires-2 c κs = search write-room-run
 
 add-at-places-3 : tie.Need-add-at-places-3
 add-at-places-3 c = search needs
@@ -37,7 +37,7 @@ same-length-2 : tie.Need-same-length-2
 same-length-2 c = search needs
 
 returns-2 : tie.Need-returns-2
-returns-2 c = write-within (c .before .before .before .before .before .before .before .before .before .before .pre .0) _ _ (c .before .before .before .before .before .before .before .before .before .before .pre .1) (c .before .before .before .before .before .before .if1 .left) (c .before .before .before .before .put-copies2 .ensures) (c .before .before .before .before .put-copies2 .kept .0) (c .at-places2 .ensures)
+returns-2 c = search write-within
 
 pub write-copies-spec : {M : Type 1} → statement M
 write-copies-spec =

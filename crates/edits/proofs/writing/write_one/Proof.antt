@@ -24,13 +24,16 @@ with-limits-requires : tie.Need-with-limits-requires
 with-limits-requires c κs = search needs
 
 make-room-for-requires : tie.Need-make-room-for-requires
-make-room-for-requires c κs = size-roomy (c .before .before .before .before .before .before .before .before .before .before .before .before .pre) 0 1 (room-is _ _ (c .before .before .before .before .before .before .before .capacity .ensures) (c .before .before .before .before .before .before .room-for .ensures) (c .before .before .before .before .enum-told .given .1)) (omega (arith, c .before .before .before .before .before .before .before .before .before .before .before .before .pre .held .idx-in)) (c .before .before .before .grow .ensures) (c .before .before .with-limits .ensures)
+make-room-for-requires c κs = let w = c .before .before in let v = w .before .before .before .before .before .before .before .before .before .before .pre in size-roomy v 0 1 (room-is _ _ (w .before .before .before .before .before .capacity .ensures) (w .before .before .before .before .room-for .ensures) (w .before .before .enum-told .given .1)) (omega (arith, v .held .idx-in)) (w .before .grow .ensures) (w .with-limits .ensures)
 
 slice-aggregate-write-copies : tie.Need-slice-aggregate-write-copies
 slice-aggregate-write-copies c = search needs
 
+slice-aggregate-write-copies-2 : tie.Need-slice-aggregate-write-copies-2
+slice-aggregate-write-copies-2 c = search needs
+
 write-copies-requires : tie.Need-write-copies-requires
-write-copies-requires c κs = (parted-writable (size-roomy (c .before .before .before .before .before .before .before .before .before .before .before .before .before .before .before .before .before .before .pre) 0 1 (room-is _ _ (c .before .before .before .before .before .before .before .before .before .before .before .before .before .capacity .ensures) (c .before .before .before .before .before .before .before .before .before .before .before .before .room-for .ensures) (c .before .before .before .before .before .before .before .before .before .before .enum-told .given .1)) (omega (arith, c .before .before .before .before .before .before .before .before .before .before .before .before .before .before .before .before .before .before .pre .held .idx-in)) (c .before .before .before .before .before .before .before .before .before .grow .ensures) (c .before .before .before .before .before .before .before .before .with-limits .ensures)) (c .before .before .before .before .before .make-room-for .ensures) (c .before .before .before .before .before .make-room-for .kept .1 .1 .0), omega arith)
+write-copies-requires c κs = let r = c .before .before .before .before .before .before .make-room-for in let w = c .before .before .before .before .before .before .before .before .before in let v = w .before .before .before .before .before .before .before .before .before .before .pre in (parted-writable (size-roomy v 0 1 (room-is _ _ (w .before .before .before .before .before .capacity .ensures) (w .before .before .before .before .room-for .ensures) (w .before .before .enum-told .given .1)) (omega (arith, v .held .idx-in)) (w .before .grow .ensures) (w .with-limits .ensures)) (r .ensures) (r .kept .1 .1 .0), omega arith)
 
 accepted-requires : tie.Need-accepted-requires
 accepted-requires c κs = search needs
@@ -60,7 +63,7 @@ same-length-2 : tie.Need-same-length-2
 same-length-2 c = search needs
 
 returns : tie.Need-returns
-returns c = one-done (c .before .before .before .before .before .before .before .before .before .before .before .before .before .before .before .before .before .before .before .before .before .before .before .before .pre) _ _ (room-is _ _ (c .before .before .before .before .before .before .before .before .before .before .before .before .before .before .before .before .before .before .before .capacity .ensures) (c .before .before .before .before .before .before .before .before .before .before .before .before .before .before .before .before .before .before .room-for .ensures) (c .before .before .before .before .before .before .before .before .before .before .before .before .before .before .before .before .enum-told .given .1)) (c .before .before .before .before .before .before .before .before .before .before .before .before .before .before .before .grow .ensures) (c .before .before .before .before .before .before .before .before .before .before .before .before .before .before .with-limits .ensures) (c .before .before .before .before .before .before .before .before .before .before .before .make-room-for .ensures) (c .before .before .before .before .before .before .before .before .before .before .before .make-room-for .kept .1 .1 .0) (c .before .before .before .before .before .write-copies .ensures) (c .accepted .ensures)
+returns c = let r = c .before .before .before .before .before .before .before .before .before .before .before .before .make-room-for in let w = c .before .before .before .before .before .before .before .before .before .before .before .before .before .before .before in let v = w .before .before .before .before .before .before .before .before .before .before .pre in one-done v _ _ (room-is _ _ (w .before .before .before .before .before .capacity .ensures) (w .before .before .before .before .room-for .ensures) (w .before .before .enum-told .given .1)) (w .before .grow .ensures) (w .with-limits .ensures) (r .ensures) (r .kept .1 .1 .0) (c .before .before .before .before .before .write-copies .ensures) (c .accepted .ensures)
 
 same-length-3 : tie.Need-same-length-3
 same-length-3 c = search needs
@@ -86,6 +89,7 @@ write-one-spec =
     with-limits-requires
     make-room-for-requires
     slice-aggregate-write-copies
+    slice-aggregate-write-copies-2
     write-copies-requires
     accepted-requires
     enum-told-2
