@@ -6,7 +6,8 @@ use lib.{ListN.length, ListN.getD, ListN.take, ListN.drop}
 use Rattle.records.specs.{Unreadable}
 use Rattle.lists.specs.{Account.Account, Account.renamed, Results.Outcome}
 use Rattle.commands.specs.Calls.{Call, Worded, step}
-use Rattle.commands.specs.Bytes.{Read, unreadable, got, mapped, word, words, at, Form, unknown, plain, glyphAnd, listed, forms, readForm, readUpTo, runRead, runBytes}
+use Rattle.records.specs.Bytes.{word}
+use Rattle.commands.specs.Bytes.{Read, unreadable, got, mapped, words, at, Form, unknown, plain, glyphAnd, listed, forms, readForm, readUpTo, runRead, runBytes}
 use Rattle.commands.specs.Renaming.{renamedOutcome, reworded, overOperands, asItIs, renamedNumber, renamedForm, renamedUpTo, renamedBytes}
 use Rattle.commands.proofs.Renaming.{step-rename, refused-outcome}
 

@@ -3,26 +3,16 @@ use mathlib.Core.{Path._≡_, Path.refl, Path.ap, Bool.cond, Bool.false, Option.
 use Prim.Native.Nat.{ℕ, zero, suc, _*_, max}
 use native.Mathlib.Nat.{zero-add, sub-zero}
 use lib.{Dec.leb, Dec.ltb, Seq.take-nil, ListN.replicate, ListN.length-replicate, ListN.length-map}
-use Rattle.records.specs.{Position, Answer, Done, Value, No, Counters.refusalNumber, Glyphs.Glyph, Glyphs.blank, Ranges.copies}
+use Rattle.records.specs.{Position, Answers.Said, Answers.ok, Answers.okWith, Answers.no, Glyphs.Glyph, Glyphs.blank, Ranges.copies}
 use Rattle.lists.specs.{Account.Account, Account.len, Account.idx, Account.outLen, Account.positions, Account.freshAccount, Results.Outcome}
 use Rattle.commands.specs.Calls.{Call, Worded, run, c00-fresh, c01-push, c02-set-length, c03-clear-output, c04-sync, c05-clear-positions, c06-place, c07-next-glyph, c08-next-glyphs, c09-skip-glyph, c0A-copy-glyph, c0B-output-glyph, c0C-output-info, c0D-replace-glyph, c0E-replace-glyphs, c0F-delete-glyph, c10-move-to, c11-merge-clusters, c12-merge-out-clusters, c13-merge-grapheme-clusters, c14-merge-out-grapheme-clusters, c15-unsafe-to-break, c16-unsafe-to-concat, c17-safe-to-insert-tatweel, c18-unsafe-to-break-from-outbuffer, c19-unsafe-to-concat-from-outbuffer, c1A-set-masks, c1B-reverse, c1C-reverse-range, c1D-reverse-clusters, c1E-reverse-graphemes, c1F-reset-clusters, c20-sort, c21-delete-glyphs-inplace, c22-form-clusters, c23-propagate-flags, c24-enter, c25-leave, c26-allocate-lig-id}
 use Rattle.commands.specs.Bytes.{runBytes, input, done}
 use Rattle.commands.proofs.Executable.{executable}
 
 -- ---- what is printed
--- "Lines: command, `ok` or `no` number, returned value if any"
-data Line : Type 0 where
-  ok : Line
-  okValue no : ℕ → Line
-
-answerLine : Answer → Line
-answerLine Done = ok
-answerLine (Value v) = okValue v
-answerLine (No r) = no (refusalNumber r)
-
 -- "`end` len, idx, out_len, max_ops, successful; then done `o`, passed `p`, input `i`: glyph, cluster, mask, var0, var1; positions `x`, five words". The serial is not printed, but starred
 record Page : Type 0 where
-  answers : List Line
+  answers : List Said
   end : List ℕ
   serial : ℕ
   o : List (List ℕ)
@@ -41,7 +31,7 @@ endLine a = len a ∷ idx a ∷ outLen a ∷ a .state .limits .«max_ops» ∷ c
 
 page : List (Outcome ℕ) → Account ℕ → Page
 page os a = record {
-  answers = map (λ o. answerLine (o .answer)) os;
+  answers = map (λ o. o .answer) os;
   end = endLine a;
   serial = a .state .limits .serial;
   o = map glyphLine (a .done);
@@ -97,13 +87,13 @@ read : List ℕ → Page → Case
 read bs prints = record { first = 10240; second = 10240; level = 0; wants = 0; setUp = []; script = bytes bs; prints = prints }
 
 -- o, p and i lines
-shows : List Line → List ℕ → List (List ℕ) → List (List ℕ) → List (List ℕ) → Page
+shows : List Said → List ℕ → List (List ℕ) → List (List ℕ) → List (List ℕ) → Page
 shows answers end o p i = record { answers = answers; end = end; serial = 0; o = o; p = p; i = i; x = [] }
 
-drew : List Line → ℕ → Page
+drew : List Said → ℕ → Page
 drew answers serial = record { answers = answers; end = 0 ∷ 0 ∷ 0 ∷ 536870911 ∷ 1 ∷ []; serial = serial; o = []; p = []; i = []; x = [] }
 
-places : List Line → List ℕ → List (List ℕ) → List (List ℕ) → Page
+places : List Said → List ℕ → List (List ℕ) → List (List ℕ) → Page
 places answers end i x = record { answers = answers; end = end; serial = 0; o = []; p = []; i = i; x = x }
 
 -- glyph, cluster, mask; and with var0
@@ -152,7 +142,7 @@ bytes-1 : List ℕ
 bytes-1 = 1 ∷ (word 41 ++ (word 0 ++ (1 ∷ (word 42 ++ (word 1 ++ (1 ∷ (word 43 ++ (word 2 ++ (3 ∷ 14 ∷ (word 2 ++ (word 1 ++ (word 99 ++ (4 ∷ [])))))))))))))
 
 page-1 : Page
-page-1 = shows (ok ∷ ok ∷ ok ∷ ok ∷ ok ∷ okValue 1 ∷ []) (end 2 0 0 536870909 1) [] [] (g 99 0 0 ∷ g 43 2 0 ∷ [])
+page-1 = shows (ok ∷ ok ∷ ok ∷ ok ∷ ok ∷ okWith 1 ∷ []) (end 2 0 0 536870909 1) [] [] (g 99 0 0 ∷ g 43 2 0 ∷ [])
 
 -- ★4: `enter` on a run of n glyphs, in the largest buffer
 entering : ℕ → ℕ → Case
@@ -171,12 +161,12 @@ table =
     ∷ on 0 0 (call (c02-set-length 16) ∷ []) (call c24-enter ∷ []) (shows (ok ∷ []) (end 16 0 0 65536 1) [] [] (replicate 16 (g 0 0 0)))
     ∷ on 0 0 (call (c02-set-length 17) ∷ []) (call c24-enter ∷ []) (shows (ok ∷ []) (end 17 0 0 69632 1) [] [] (replicate 17 (g 0 0 0)))
     -- ★5
-    ∷ on 0 0 (replicate 7 (call c26-allocate-lig-id)) (call c26-allocate-lig-id ∷ []) (drew (okValue 1 ∷ []) 9)
-    ∷ on 0 0 (replicate 224 (call c26-allocate-lig-id)) (call c26-allocate-lig-id ∷ []) (drew (okValue 1 ∷ []) 1)
+    ∷ on 0 0 (replicate 7 (call c26-allocate-lig-id)) (call c26-allocate-lig-id ∷ []) (drew (okWith 1 ∷ []) 9)
+    ∷ on 0 0 (replicate 224 (call c26-allocate-lig-id)) (call c26-allocate-lig-id ∷ []) (drew (okWith 1 ∷ []) 1)
     -- ★6
     ∷ on 0 0 (pushes 1 (2 ∷ 3 ∷ 3 ∷ [])) (call (c11-merge-clusters (input 0) (input 2)) ∷ []) (shows (ok ∷ []) (end 3 0 0 536870909 1) [] [] (g 1 2 0 ∷ g 2 2 0 ∷ g 3 2 0 ∷ []))
     -- ★7
-    ∷ on 0 0 (pushes 65 (0 ∷ [])) (call c03-clear-output ∷ info 66 0 7 0 ∷ info 67 0 8 0 ∷ call (c10-move-to 0) ∷ []) (shows (ok ∷ ok ∷ ok ∷ okValue 1 ∷ []) (end 3 0 0 536870908 1) [] [] (g 66 7 0 ∷ g 67 8 0 ∷ g 65 0 0 ∷ []))
+    ∷ on 0 0 (pushes 65 (0 ∷ [])) (call c03-clear-output ∷ info 66 0 7 0 ∷ info 67 0 8 0 ∷ call (c10-move-to 0) ∷ []) (shows (ok ∷ ok ∷ ok ∷ okWith 1 ∷ []) (end 3 0 0 536870908 1) [] [] (g 66 7 0 ∷ g 67 8 0 ∷ g 65 0 0 ∷ []))
     -- ★8
     ∷ on 0 0 (made (info 1 0 0 2 ∷ info 2 0 1 1 ∷ info 3 0 2 1 ∷ [])) (call (c20-sort (input 0) (input 3) 0 4294967295) ∷ []) (shows (ok ∷ []) (end 3 0 0 536870907 1) [] [] (gv 2 0 0 1 ∷ gv 3 0 0 1 ∷ gv 1 0 0 2 ∷ []))
     -- ★9
@@ -195,15 +185,15 @@ table =
     -- `clear_output` takes back what was passed; its idx 0 is no condition
     ∷ on 0 0 (pushes 1 (0 ∷ 1 ∷ [])) (call c09-skip-glyph ∷ call c03-clear-output ∷ []) (shows (ok ∷ ok ∷ []) (end 2 0 0 536870911 1) [] [] (g 1 0 0 ∷ g 2 1 0 ∷ []))
     -- giving up: over max_len 0 is answered, within it and over capacity is refusal 5; then `move_to` without output is true, with output 3 comes before false
-    ∷ on 0 0 [] (call (c02-set-length 1073741823) ∷ call (c02-set-length 1073741824) ∷ call (c10-move-to 0) ∷ call (c10-move-to 1) ∷ call c03-clear-output ∷ call (c10-move-to 1) ∷ call (c10-move-to 0) ∷ []) (shows (no 5 ∷ okValue 0 ∷ okValue 1 ∷ no 3 ∷ ok ∷ no 3 ∷ okValue 0 ∷ []) (end 0 0 0 536870911 0) [] [] [])
+    ∷ on 0 0 [] (call (c02-set-length 1073741823) ∷ call (c02-set-length 1073741824) ∷ call (c10-move-to 0) ∷ call (c10-move-to 1) ∷ call c03-clear-output ∷ call (c10-move-to 1) ∷ call (c10-move-to 0) ∷ []) (shows (no 5 ∷ okWith 0 ∷ okWith 1 ∷ no 3 ∷ ok ∷ no 3 ∷ okWith 0 ∷ []) (end 0 0 0 536870911 0) [] [] [])
     -- a `sync` whose size gives up is true, and *rest* is lost
-    ∷ lent 327680 327680 (call c24-enter ∷ call (c02-set-length 65536) ∷ call c03-clear-output ∷ info 9 0 0 0 ∷ []) (call c04-sync ∷ []) (shows (okValue 1 ∷ []) (end 1 0 0 65536 0) [] [] (g 9 0 0 ∷ []))
+    ∷ lent 327680 327680 (call c24-enter ∷ call (c02-set-length 65536) ∷ call c03-clear-output ∷ info 9 0 0 0 ∷ []) (call c04-sync ∷ []) (shows (okWith 1 ∷ []) (end 1 0 0 65536 0) [] [] (g 9 0 0 ∷ []))
     -- a failed `sync` keeps len and spoils: then 2, but for 00, which may be 4
-    ∷ on 0 0 (pushes 1 (0 ∷ 1 ∷ [])) (call (c02-set-length 1073741824) ∷ call c03-clear-output ∷ call c07-next-glyph ∷ call c04-sync ∷ call c26-allocate-lig-id ∷ call (c16-unsafe-to-concat none none) ∷ call (c00-fresh 0 4) ∷ []) (shows (okValue 0 ∷ ok ∷ ok ∷ okValue 0 ∷ no 2 ∷ no 2 ∷ no 4 ∷ []) (end 2 0 0 536870911 0) [] [] [])
+    ∷ on 0 0 (pushes 1 (0 ∷ 1 ∷ [])) (call (c02-set-length 1073741824) ∷ call c03-clear-output ∷ call c07-next-glyph ∷ call c04-sync ∷ call c26-allocate-lig-id ∷ call (c16-unsafe-to-concat none none) ∷ call (c00-fresh 0 4) ∷ []) (shows (okWith 0 ∷ ok ∷ ok ∷ okWith 0 ∷ no 2 ∷ no 2 ∷ no 4 ∷ []) (end 2 0 0 536870911 0) [] [] [])
     -- a back move past the cursor grows len and idx first
-    ∷ on 0 0 (pushes 1 (0 ∷ 1 ∷ [])) (call c03-clear-output ∷ call c07-next-glyph ∷ info 3 0 5 0 ∷ info 4 0 6 0 ∷ call (c10-move-to 1) ∷ []) (shows (ok ∷ ok ∷ ok ∷ ok ∷ okValue 1 ∷ []) (end 3 0 1 536870908 1) (g 1 0 0 ∷ []) [] (g 3 5 0 ∷ g 4 6 0 ∷ g 2 1 0 ∷ []))
+    ∷ on 0 0 (pushes 1 (0 ∷ 1 ∷ [])) (call c03-clear-output ∷ call c07-next-glyph ∷ info 3 0 5 0 ∷ info 4 0 6 0 ∷ call (c10-move-to 1) ∷ []) (shows (ok ∷ ok ∷ ok ∷ ok ∷ okWith 1 ∷ []) (end 3 0 1 536870908 1) (g 1 0 0 ∷ []) [] (g 3 5 0 ∷ g 4 6 0 ∷ g 2 1 0 ∷ []))
     -- its growth stays where the second cost fails; `max_ops` is below 0 then, and merges and masks still work
-    ∷ lent 327680 327680 (call c24-enter ∷ call (c02-set-length 65534) ∷ call (c1A-set-masks 0 1 0 1) ∷ call (c02-set-length 2) ∷ call c03-clear-output ∷ call c07-next-glyph ∷ info 3 0 5 0 ∷ info 4 0 6 0 ∷ []) (call (c10-move-to 1) ∷ call (c12-merge-out-clusters (done 1) (done 3)) ∷ call (c10-move-to 2) ∷ []) (shows (okValue 0 ∷ ok ∷ okValue 0 ∷ []) (end 3 2 3 4294967293 0) (g 0 0 0 ∷ g 3 5 0 ∷ g 4 5 0 ∷ []) [] (g 0 0 0 ∷ []))
+    ∷ lent 327680 327680 (call c24-enter ∷ call (c02-set-length 65534) ∷ call (c1A-set-masks 0 1 0 1) ∷ call (c02-set-length 2) ∷ call c03-clear-output ∷ call c07-next-glyph ∷ info 3 0 5 0 ∷ info 4 0 6 0 ∷ []) (call (c10-move-to 1) ∷ call (c12-merge-out-clusters (done 1) (done 3)) ∷ call (c10-move-to 2) ∷ []) (shows (okWith 0 ∷ ok ∷ okWith 0 ∷ []) (end 3 2 3 4294967293 0) (g 0 0 0 ∷ g 3 5 0 ∷ g 4 5 0 ∷ []) [] (g 0 0 0 ∷ []))
     -- 0B with both lists empty makes its size; 0E with *rest* empty is 3
     ∷ lent 0 0 [] (call c03-clear-output ∷ record { call = c0B-output-glyph; glyphs = 7 ∷ [] } ∷ replaceGlyphs 0 0 [] ∷ []) (shows (ok ∷ no 5 ∷ no 3 ∷ []) (end 0 0 0 536870911 1) [] [] [])
     -- 0E: 3 before 4 before 5; more numbers than stated are left
@@ -254,7 +244,7 @@ table =
     -- bytes: numbers cut off are refusal 6, which ends the reading
     ∷ read (1 ∷ (word 41 ++ (word 7 ++ (3 ∷ 14 ∷ (word 1 ++ (word 2 ++ word 99)))))) (shows (ok ∷ ok ∷ no 6 ∷ []) (end 1 0 0 536870911 1) [] [] (g 41 7 0 ∷ []))
     -- bytes: an open bound
-    ∷ read (2 ∷ (word 2 ++ (31 ∷ 21 ∷ 255 ∷ 255 ∷ 255 ∷ 255 ∷ 255 ∷ 255 ∷ 255 ∷ 255 ∷ []))) (shows (okValue 1 ∷ ok ∷ ok ∷ []) (end 2 0 0 536870911 1) [] [] (g 0 0 0 ∷ g 0 1 3 ∷ []))
+    ∷ read (2 ∷ (word 2 ++ (31 ∷ 21 ∷ 255 ∷ 255 ∷ 255 ∷ 255 ∷ 255 ∷ 255 ∷ 255 ∷ 255 ∷ []))) (shows (okWith 1 ∷ ok ∷ ok ∷ []) (end 2 0 0 536870911 1) [] [] (g 0 0 0 ∷ g 0 1 3 ∷ []))
     -- bytes: an unknown command, with a known one behind it
     ∷ read (39 ∷ 3 ∷ []) (shows (no 6 ∷ []) (end 0 0 0 536870911 1) [] [] [])
     ∷ []
@@ -269,10 +259,10 @@ zero-lines zero = refl
 zero-lines (suc n) = ap {B = List (List ℕ)} (λ r. g 0 0 0 ∷ r) (zero-lines n)
 
 entering-right : (n : ℕ) → leb n 0 ≡ false → ltb 1073741823 n ≡ false → ltb 1048576 n ≡ false → Right (entering n (enteredOps n))
-unfolding Right entering page left ran lent shows call answerLine glyphLine positionLine endLine g end enteredOps executable
+unfolding Right entering page left ran lent shows call glyphLine positionLine endLine g end enteredOps executable
 entering-right n some-glyphs within-max fits = simp (some-glyphs, within-max, fits, sub-zero, zero-add, take-nil, length-map, length-replicate, zero-lines n)
 
 -- every row of the table prints what it says
 examples : AllRight table
-unfolding table Right enteredOps page left ran on lent read shows drew places answerLine glyphLine positionLine endLine g gv end pushes call push replaceGlyphs made info rows word bytes-1 page-1 executable
+unfolding table Right enteredOps page left ran on lent read shows drew places glyphLine positionLine endLine g gv end pushes call push replaceGlyphs made info rows word bytes-1 page-1 executable
 examples = (entering-right 524287 refl refl refl, (entering-right 524288 refl refl refl, (refl, (refl, (refl, (refl, (refl, (refl, (refl, (refl, (refl, (refl, (refl, (refl, (refl, (refl, (refl, (refl, (refl, (refl, (refl, (refl, (refl, (refl, (refl, (refl, (refl, (refl, (refl, (refl, (refl, (refl, (refl, (refl, (refl, (refl, (refl, (refl, (refl, (refl, (refl, (refl, (refl, (refl, (refl, (refl, (refl, (refl, (refl, (refl, (refl, (refl, (refl, (refl, tt))))))))))))))))))))))))))))))))))))))))))))))))))))))

@@ -1,7 +1,7 @@
 -- Document 01's first example, as the bytes that it prints; and numbers at their limits.
 use mathlib.Core.{Path._≡_, Path.refl, List.List, List.[], List._∷_, List._++_, List.flatMap}
 use Prim.Native.Nat.{ℕ}
-use Rattle.records.specs.{No, Unreadable}
+use Rattle.records.specs.{Unreadable, Answers.no, Answers.refusalNumber}
 use Rattle.lists.specs.{Account.Account, Account.freshAccount, Results.Outcome}
 use Rattle.commands.specs.Bytes.{runBytes}
 use Rattle.commands.specs.Lines.{answerLine, positionLine, report}
@@ -43,7 +43,7 @@ unfolding answers last printed script flatMap executable
 example-1 = refl
 
 -- `FF no 6`
-no-6 : answerLine 255 (No Unreadable) ≡ 70 ∷ 70 ∷ 32 ∷ 110 ∷ 111 ∷ 32 ∷ 54 ∷ 10 ∷ []
+no-6 : answerLine 255 (no (refusalNumber Unreadable)) ≡ 70 ∷ 70 ∷ 32 ∷ 110 ∷ 111 ∷ 32 ∷ 54 ∷ 10 ∷ []
 unfolding executable
 no-6 = refl
 

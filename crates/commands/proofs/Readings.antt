@@ -6,7 +6,9 @@ use native.Mathlib.Omega.{arith}
 use lib.{Dec.ltb, ListN.length, ListN.getD, ListN.take, ListN.drop, ListN.length-drop, ListN.List·getD-eq-default, Seq.drop-cons}
 use borrow.Author.Tests.{ltb-true, ltb-false}
 use Rattle.commands.specs.Bytes.{unreadable, got, mapped, words, at, Form, unknown, plain, glyphAnd, listed, forms, readForm, readUpTo}
-use Rattle.commands.specs.Reading.{wordAt, wordsAt, formOf, operandsOf, count, made, operandAt, orderAt, ordered, wordedOf, readingOf, ReadsForm, Reads}
+use Rattle.records.specs.Bytes.{wordAt, wordsAt}
+use Rattle.records.proofs.ByteLaws.{length-words}
+use Rattle.commands.specs.Reading.{formOf, operandsOf, count, made, operandAt, orderAt, ordered, wordedOf, readingOf, ReadsForm, Reads}
 use Rattle.commands.proofs.Bytes.{listedRead, continued}
 use Rattle.commands.specs.declared.{Reading.Reading, Reading.the-variants.Command, Reading.the-variants.Unreadable, Operands.Operands, Operands.the-variants.Words, Operands.the-variants.Listed, Operands.the-variants.Unknown}
 
@@ -61,17 +63,6 @@ unfolding operandsOf
 no-command byte h = rw (unknown-from byte h)
 
 -- ---- operands of an order
-length-words : (n : ℕ) (s : List ℕ) (from : ℕ) → length (wordsAt s from n) ≡ n
-unfolding wordsAt
-length-words zero s from = refl
-length-words (suc n) s from = ap suc (length-words n s (from + 4))
-
-pub operand-there : (n i : ℕ) (s : List ℕ) (from : ℕ) → i < n → operandAt s from n i ≡ wordAt s (from + 4 * i)
-unfolding wordsAt
-operand-there zero i s from h = absurd (omega arith)
-operand-there (suc n) zero s from h = rw add-zero
-operand-there (suc n) (suc i) s from h = let e : from + 4 * suc i ≡ from + 4 + 4 * i = omega arith in rw e (operand-there n i s (from + 4) (omega arith))
-
 pub operand-none : (n i : ℕ) (s : List ℕ) (from : ℕ) → n ≤ i → operandAt s from n i ≡ 0
 operand-none n i s from h = List·getD-eq-default (wordsAt s from n) 0 {n = i} (rw (length-words n s from) h)
 

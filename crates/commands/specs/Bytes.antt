@@ -1,8 +1,8 @@
 -- Commands from bytes: "one byte in hexadecimal, operands of four bytes, low byte first; an open bound (15 to 19) is FFFFFFFF".
 use mathlib.Core.{Bool.cond, Option.Option, Option.none, Option.some, List.List, List.[], List._∷_}
-use Prim.Native.Nat.{ℕ, zero, suc, _+_, _*_}
+use Prim.Native.Nat.{ℕ, zero, suc}
 use lib.{Dec.eqb, ListN.getD, ListN.take, ListN.drop, ListN.length}
-use Rattle.records.specs.{DonePlace, InputPlace, Unreadable}
+use Rattle.records.specs.{DonePlace, InputPlace, Unreadable, Bytes.word}
 use Rattle.lists.specs.{Account.Account, Results.Outcome, Results.refused, Results.outcome}
 use Rattle.commands.specs.Calls.{Call, Worded, step, c00-fresh, c01-push, c02-set-length, c03-clear-output, c04-sync, c05-clear-positions, c06-place, c07-next-glyph, c08-next-glyphs, c09-skip-glyph, c0A-copy-glyph, c0B-output-glyph, c0C-output-info, c0D-replace-glyph, c0E-replace-glyphs, c0F-delete-glyph, c10-move-to, c11-merge-clusters, c12-merge-out-clusters, c13-merge-grapheme-clusters, c14-merge-out-grapheme-clusters, c15-unsafe-to-break, c16-unsafe-to-concat, c17-safe-to-insert-tatweel, c18-unsafe-to-break-from-outbuffer, c19-unsafe-to-concat-from-outbuffer, c1A-set-masks, c1B-reverse, c1C-reverse-range, c1D-reverse-clusters, c1E-reverse-graphemes, c1F-reset-clusters, c20-sort, c21-delete-glyphs-inplace, c22-form-clusters, c23-propagate-flags, c24-enter, c25-leave, c26-allocate-lig-id}
 
@@ -14,9 +14,6 @@ pub data Read (A : Type 0) : Type 0 where
 unfoldable pub mapped : {A B : Type 0} → (A → B) → Read A → Read B
 mapped h unreadable = unreadable
 mapped h (got a l) = got (h a) l
-
-abbrev pub word : ℕ → ℕ → ℕ → ℕ → ℕ
-word a b c d = a + 256 * (b + 256 * (c + 256 * d))
 
 -- n operands
 unfoldable pub words : ℕ → List ℕ → Read (List ℕ)

@@ -31,7 +31,7 @@ module _ {G H : Type 0} (f : G → H) where
     pub passed : SameList (a .passed) (b .passed)
     pub same-positions : positions b ≡ positions a
 
-  -- after a call: the same answer or refusal number
+  -- after a call: "the same returned value or refusal number in both"
   pub record SameOutcome (o : Outcome G) (p : Outcome H) : Type 0 where
     pub answer : p .answer ≡ o .answer
     pub after : SameAccount (o .after) (p .after)

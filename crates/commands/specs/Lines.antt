@@ -3,7 +3,7 @@
 use mathlib.Core.{Path._≡_, Bool.Bool, Bool.cond, List.List, List.[], List._∷_, List._++_, List.map, List.flatMap}
 use Prim.Native.Nat.{ℕ, zero, suc, _+_, _-_, _/_, _%_, _≤_, _<_}
 use lib.{Dec.ltb, ListN.length, ListN.getD, Seq.sets}
-use Rattle.records.specs.{Position, Answer, Done, Value, No, Counters.refusalNumber, Counters.isNegative, Glyphs.Glyph, View.seen}
+use Rattle.records.specs.{Position, Answers.Said, Answers.ok, Answers.okWith, Answers.no, Counters.isNegative, Glyphs.Glyph, View.seen}
 use Rattle.lists.specs.{Account.Account, Account.len, Account.idx, Account.outLen, Account.spoiledPhase, State.account, State.sound, Items.items}
 use Rattle.lists.specs.declared.{Buffer.Buffer, Item.Item, Item.the-variants.OfDone, Item.the-variants.OfPassed, Item.the-variants.OfRest, Item.the-variants.Placed, Item.the-variants.Nothing}
 
@@ -39,10 +39,10 @@ ending [] = 10 ∷ []
 ending (w ∷ ws) = 32 ∷ (w ++ ending ws)
 
 -- "command, `ok` or `no` number, returned value if any"
-unfoldable pub answerLine : ℕ → Answer → List ℕ
-answerLine byte Done = hex byte ++ ending ((111 ∷ 107 ∷ []) ∷ [])
-answerLine byte (Value v) = hex byte ++ ending ((111 ∷ 107 ∷ []) ∷ decimal v ∷ [])
-answerLine byte (No r) = hex byte ++ ending ((110 ∷ 111 ∷ []) ∷ decimal (refusalNumber r) ∷ [])
+unfoldable pub answerLine : ℕ → Said → List ℕ
+answerLine byte ok = hex byte ++ ending ((111 ∷ 107 ∷ []) ∷ [])
+answerLine byte (okWith v) = hex byte ++ ending ((111 ∷ 107 ∷ []) ∷ decimal v ∷ [])
+answerLine byte (no n) = hex byte ++ ending ((110 ∷ 111 ∷ []) ∷ decimal n ∷ [])
 
 -- "`end` len, idx, out_len, max_ops, successful"; max_ops is signed
 unfoldable pub countersLine : (len idx out-len max-ops : ℕ) (successful : Bool) → List ℕ

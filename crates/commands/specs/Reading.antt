@@ -1,18 +1,11 @@
 -- What an answer of the reader stands for: what the account reads from the same bytes.
 use mathlib.Core.{Path._≡_, List.List, List.[], List._∷_}
-use Prim.Native.Nat.{ℕ, zero, suc, _+_, _*_, _≤_, _<_}
+use Prim.Native.Nat.{ℕ, suc, _+_, _*_, _≤_, _<_}
 use lib.{ListN.getD, ListN.take, ListN.drop, ListN.length}
+use Rattle.records.specs.Bytes.{wordsAt}
 use Rattle.commands.specs.Calls.{Worded, c03-clear-output}
-use Rattle.commands.specs.Bytes.{Read, unreadable, got, word, Form, unknown, plain, glyphAnd, listed, forms, readForm}
+use Rattle.commands.specs.Bytes.{Read, unreadable, got, Form, unknown, plain, glyphAnd, listed, forms, readForm}
 use Rattle.commands.specs.declared.{Order.Order, Reading.Reading, Reading.the-variants.Command, Reading.the-variants.Unreadable, Operands.Operands, Operands.the-variants.Words, Operands.the-variants.Listed, Operands.the-variants.Unknown}
-
--- the word whose four bytes stand at a place, and n words from a place on
-abbrev pub wordAt : List ℕ → ℕ → ℕ
-wordAt s at = word (getD s at 0) (getD s (at + 1) 0) (getD s (at + 2) 0) (getD s (at + 3) 0)
-
-unfoldable pub wordsAt : List ℕ → ℕ → ℕ → List ℕ
-wordsAt s at zero = []
-wordsAt s at (suc n) = wordAt s at ∷ wordsAt s (at + 4) n
 
 -- ---- forms
 abbrev pub formOf : ℕ → Form

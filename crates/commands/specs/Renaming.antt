@@ -2,8 +2,9 @@
 use mathlib.Core.{List.List, List.[], List._∷_, List._++_, List.map}
 use Prim.Native.Nat.{ℕ, zero, suc, _/_, _%_}
 use lib.{ListN.getD, ListN.length}
+use Rattle.records.specs.Bytes.{word}
 use Rattle.lists.specs.{Results.Outcome, Account.renamed}
-use Rattle.commands.specs.{Calls.Worded, Bytes.Form, Bytes.unknown, Bytes.plain, Bytes.glyphAnd, Bytes.listed, Bytes.forms, Bytes.unreadable, Bytes.got, Bytes.word, Bytes.words, Bytes.at}
+use Rattle.commands.specs.{Calls.Worded, Bytes.Form, Bytes.unknown, Bytes.plain, Bytes.glyphAnd, Bytes.listed, Bytes.forms, Bytes.unreadable, Bytes.got, Bytes.words, Bytes.at}
 
 module _ {G H : Type 0} (f : G → H) where
   unfoldable pub renamedOutcome : Outcome G → Outcome H

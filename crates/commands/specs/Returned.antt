@@ -2,14 +2,10 @@
 use mathlib.Core.{Path._≡_, List.List, List.[], List._∷_}
 use Prim.Native.Nat.{ℕ, _<_, _≤_}
 use lib.{ListN.length}
-use Rattle.lists.specs.{Results.Outcome, State.account, Contract.Meets}
+use Rattle.lists.specs.{Results.Outcome, Contract.outcomeOf, Contract.Meets}
 use Rattle.lists.specs.declared.{Buffer.Buffer, Reply.Reply}
 use Rattle.commands.specs.{Calls.Worded, Calls.perform, Steps.Steps}
 use Rattle.commands.specs.declared.Step.{Step}
-
--- the answer, and the account of what is left
-unfoldable pub outcomeOf : Reply → (first second : List ℕ) → Outcome ℕ
-outcomeOf r f s = record { answer = r .answer; after = account (r .buffer) f s }
 
 -- slices that were lent keep their lengths
 abbrev pub SameLengths : (f s f′ s′ : List ℕ) → Type 0
@@ -43,11 +39,11 @@ pub record LeftAt : Type 0 where
 abbrev pub leftAt : LeftAt → Outcome ℕ
 leftAt x = outcomeOf (x .step .reply) (x .first) (x .second)
 
--- the commands of a string from a place on, each by `step`; n is the length of the third slice
-abbrev pub StepRun : List ℕ → (n at : ℕ) → Buffer → (f s : List ℕ) → List LeftAt → Type 0
-StepRun script n at b f s [] = length script ≤ at
-StepRun script n at b f s (x ∷ xs) =
+-- the commands of a string from a place on, each by `step`
+abbrev pub StepRun : List ℕ → (at : ℕ) → Buffer → (f s : List ℕ) → List LeftAt → Type 0
+StepRun script at b f s [] = length script ≤ at
+StepRun script at b f s (x ∷ xs) =
     (at < length script)
-    × Steps script at n b f s (x .step) (x .first) (x .second)
+    × Steps script at b f s (x .step) (x .first) (x .second)
     × SameLengths f s (x .first) (x .second)
-    × StepRun script n (x .step .next) (x .step .reply .buffer) (x .first) (x .second) xs
+    × StepRun script (x .step .next) (x .step .reply .buffer) (x .first) (x .second) xs

@@ -1,9 +1,9 @@
 -- One command of a string on a buffer: refusals "6, 1, 2, 3, 4, 5".
-use mathlib.Core.{Path._≡_, Bool.Bool, Bool.true, Bool.cond, Bool._&&_, List.List, List.[], List._∷_}
-use Prim.Native.Nat.{ℕ, _/_, _<_, _≤_}
-use lib.{Dec.leb, ListN.length, ListN.drop}
-use Rattle.records.specs.{Contradiction, Unreadable, View.wordsFrom}
-use Rattle.lists.specs.{Account.Account, Results.Outcome, Results.refused, Results.outcome, State.account, State.sound, Contract.isNo}
+use mathlib.Core.{Path._≡_, Bool.Bool, Bool.true, Bool.cond, List.List, List.[], List._∷_}
+use Prim.Native.Nat.{ℕ, _<_, _≤_}
+use lib.{ListN.length, ListN.drop}
+use Rattle.records.specs.{Contradiction, Unreadable, Answers.said, View.wordsFrom}
+use Rattle.lists.specs.{Account.Account, Results.Outcome, Results.refused, Results.outcome, State.account, State.sound, Contract.outcomeOf, Contract.isNo}
 use Rattle.lists.specs.declared.{Buffer.Buffer}
 use Rattle.commands.specs.Calls.{Worded, step}
 use Rattle.commands.specs.Bytes.{Read, unreadable, got, readForm}
@@ -19,25 +19,21 @@ unfoldable pub behind : Read (Worded ℕ) → List ℕ
 behind unreadable = []
 behind (got w l) = l
 
--- glyph numbers of a command are kept in a third lent slice, of at least a quarter of the string's length. A shorter one is refusal 1
-unfoldable pub lentFor : List ℕ → ℕ → Bool
-lentFor script numbers = leb (length script / 4) numbers
+-- what a call comes to: the account's step, or refusal 1 where the buffer contradicts itself
+unfoldable pub called : (fit : Bool) → (first second : ℕ) → Worded ℕ → Account ℕ → Outcome ℕ
+called fit first second w a = cond fit (step 0 first second w a) (outcome a (refused Contradiction))
 
--- what a call comes to: refusal 1 where the state contradicts itself or a slice is not as it should be, else the account's step
-unfoldable pub called : (rightful : Bool) → (first second : ℕ) → Worded ℕ → Account ℕ → Outcome ℕ
-called rightful first second w a = cond rightful (step 0 first second w a) (outcome a (refused Contradiction))
+-- what a command comes to
+unfoldable pub stepped : Read (Worded ℕ) → Buffer → (first second : List ℕ) → Outcome ℕ
+stepped unreadable b f s = outcome (account b f s) (refused Unreadable)
+stepped (got w l) b f s = called (sound b f s) (length f) (length s) w (account b f s)
 
--- what a command comes to; roomy: the third slice is long enough
-unfoldable pub stepped : (roomy : Bool) → Read (Worded ℕ) → Buffer → (first second : List ℕ) → Outcome ℕ
-stepped roomy unreadable b f s = outcome (account b f s) (refused Unreadable)
-stepped roomy (got w l) b f s = called (sound b f s && roomy) (length f) (length s) w (account b f s)
-
--- b, f and s are the state and the slices before the step, r is what it gives back; n is the length of the third slice
-pub record Steps (script : List ℕ) (at n : ℕ) (b : Buffer) (f s : List ℕ) (r : Step) (f′ s′ : List ℕ) : Type 0 where
+-- b, f and s are the state and the slices before the step, r is what it gives back
+pub record Steps (script : List ℕ) (at : ℕ) (b : Buffer) (f s : List ℕ) (r : Step) (f′ s′ : List ℕ) : Type 0 where
   -- answer and account
-  pub is : record { answer = r .reply .answer; after = account (r .reply .buffer) f′ s′ } ≡ stepped (lentFor script n) (front (drop at script)) b f s
+  pub is : outcomeOf (r .reply) f′ s′ ≡ stepped (front (drop at script)) b f s
   -- as each call: a refusal changes nothing, words from the allocated size on are never written, and a sound buffer stays so
-  pub stays : isNo (r .reply .answer) ≡ true → (r .reply .buffer ≡ b) × (f′ ≡ f) × (s′ ≡ s)
+  pub stays : isNo (said (r .reply .answer)) ≡ true → (r .reply .buffer ≡ b) × (f′ ≡ f) × (s′ ≡ s)
   pub first-beyond : wordsFrom (r .reply .buffer .limits .allocated) f′ ≡ wordsFrom (r .reply .buffer .limits .allocated) f
   pub second-beyond : wordsFrom (r .reply .buffer .limits .allocated) s′ ≡ wordsFrom (r .reply .buffer .limits .allocated) s
   pub stays-sound : sound b f s ≡ true → sound (r .reply .buffer) f′ s′ ≡ true

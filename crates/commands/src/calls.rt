@@ -1,12 +1,14 @@
 // The calls: an order on state and slices.
 ghost use mathlib.Core.Path.{_≡_};
 ghost use mathlib.Core.List.{[], _∷_};
-ghost use Prim.Native.Nat.{_<_};
+ghost use Prim.Native.Nat.{_+_, _*_, _<_, _≤_};
+ghost use lib.ListN.{length};
+ghost use Rattle.records.specs.Bytes.{wordsAt};
 ghost use Rattle.lists.specs.Contract.{Meets};
 ghost use Rattle.edits.specs.Bounds.{inputBound, doneBound};
 ghost use Rattle.commands.specs.Bytes.{bound, input, done};
-ghost use Rattle.commands.specs.Calls.{perform, c0C-output-info, c15-unsafe-to-break, c16-unsafe-to-concat, c17-safe-to-insert-tatweel, c18-unsafe-to-break-from-outbuffer, c19-unsafe-to-concat-from-outbuffer};
-ghost use Rattle.commands.specs.Reading.{ordered};
+ghost use Rattle.commands.specs.Calls.{perform, c0C-output-info, c0E-replace-glyphs, c15-unsafe-to-break, c16-unsafe-to-concat, c17-safe-to-insert-tatweel, c18-unsafe-to-break-from-outbuffer, c19-unsafe-to-concat-from-outbuffer};
+ghost use Rattle.commands.specs.Reading.{wordedOf};
 use super::Order;
 use edits::DoneBound;
 use edits::InputBound;
@@ -48,6 +50,31 @@ fn output_info(b: Buffer, first: &mut [u32], second: &mut [u32], o: Order) -> Re
         var1: o.e,
     };
     edits::writing::output_info(b, first, second, g)
+}
+
+// 0E: its glyph numbers stand in the string.
+fn replace_glyphs(
+    b: Buffer,
+    first: &mut [u32],
+    second: &mut [u32],
+    script: &[u8],
+    o: Order,
+) -> Reply
+    requires { ⌜ o .numbers + 4 * o .b ≤ length (now script) ⌝ }
+    ensures { λ r. ⌜ Meets (λ capacity a. perform 0 capacity (c0E-replace-glyphs (o .a) (o .b)) (wordsAt (now (script .entry)) (o .numbers) (o .b)) a) b (now (first .entry)) (now (second .entry)) r (now (first .exit)) (now (second .exit)) ⌝ }
+{
+    let num_in = o.a as usize;
+    let num_out = o.b as usize;
+    let from = o.numbers;
+    let to = from + 4 * num_out;
+    edits::replacing::replace_glyphs_from_bytes(
+        b,
+        first,
+        second,
+        num_in,
+        num_out,
+        &script[from..to],
+    )
 }
 
 // 15 to 19 take bounds.
@@ -103,10 +130,10 @@ fn unsafe_to_concat_from_outbuffer(
     edits::flagging::unsafe_to_concat_from_outbuffer(b, first, second, start, end)
 }
 
-// The call of an order, whose glyph numbers are lent. 26 is the last command byte.
-pub fn call(b: Buffer, first: &mut [u32], second: &mut [u32], o: Order, numbers: &[u32]) -> Reply
-    requires { ⌜ o .byte < 39 ⌝ }
-    ensures { λ r. ⌜ Meets (λ capacity a. perform 0 capacity (ordered o (now (numbers .entry)) .call) (ordered o (now (numbers .entry)) .glyphs) a) b (now (first .entry)) (now (second .entry)) r (now (first .exit)) (now (second .exit)) ⌝ }
+// The call of an order that was read from a string. 26 is the last command byte.
+pub fn call(b: Buffer, first: &mut [u32], second: &mut [u32], script: &[u8], o: Order) -> Reply
+    requires { ⌜ (o .byte < 39) × (o .byte ≡ 14 → o .numbers + 4 * o .b ≤ length (now script)) ⌝ }
+    ensures { λ r. ⌜ Meets (λ capacity a. perform 0 capacity (wordedOf (now (script .entry)) o .call) (wordedOf (now (script .entry)) o .glyphs) a) b (now (first .entry)) (now (second .entry)) r (now (first .exit)) (now (second .exit)) ⌝ }
 {
     let byte = o.byte;
     match byte {
@@ -133,14 +160,7 @@ pub fn call(b: Buffer, first: &mut [u32], second: &mut [u32], o: Order, numbers:
         0x0B => edits::writing::output_glyph(b, first, second, o.a),
         0x0C => output_info(b, first, second, o),
         0x0D => edits::replacing::replace_glyph(b, first, second, o.a),
-        0x0E => edits::replacing::replace_glyphs(
-            b,
-            first,
-            second,
-            o.a as usize,
-            o.b as usize,
-            numbers,
-        ),
+        0x0E => replace_glyphs(b, first, second, script, o),
         0x0F => edits::deleting::delete_glyph(b, first, second),
         0x10 => lists::cursor::move_to(b, first, second, o.a as usize),
         0x11 => edits::merges::merge_clusters(

@@ -4,6 +4,7 @@ ghost use mathlib.Core.Bool.{cond};
 ghost use Prim.Native.Nat.{_+_, _≤_};
 ghost use lib.ListN.{length};
 ghost use lib.Dec.{leb};
+ghost use Rattle.records.specs.Answers.{said};
 ghost use Rattle.records.specs.View.{seen};
 ghost use Rattle.lists.specs.Account.{spoiledPhase};
 ghost use Rattle.commands.specs.Lines.{answerLine, endLineOf, glyphLine, positionLine, Wrote, Prints, longest};
@@ -18,7 +19,7 @@ use records::Position;
 // The command, ` ok` or ` no`, and a number if any.
 fn put_answer(out: &mut [u8], at: usize, byte: u8, answer: Answer) -> usize
     requires { ⌜ at + longest ≤ length (now out) ⌝ }
-    ensures { λ r. ⌜ Wrote (answerLine byte answer) (now (out .entry)) at r (now (out .exit)) ⌝ }
+    ensures { λ r. ⌜ Wrote (answerLine byte (said answer)) (now (out .entry)) at r (now (out .exit)) ⌝ }
     ensures { λ r. ⌜ r ≤ at + longest ⌝ }
 {
     let k = digits::put_hex(out, at, byte);
@@ -105,7 +106,7 @@ fn has_room(len: usize, at: usize) -> bool
 
 // The line of a command and what it answered.
 pub fn answer_line(out: &mut [u8], at: usize, byte: u8, answer: Answer) -> usize
-    ensures { λ r. ⌜ Prints (answerLine byte answer) (now (out .entry)) at r (now (out .exit)) ⌝ }
+    ensures { λ r. ⌜ Prints (answerLine byte (said answer)) (now (out .entry)) at r (now (out .exit)) ⌝ }
 {
     if has_room(out.len(), at) {
         return put_answer(out, at, byte, answer);

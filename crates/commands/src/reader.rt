@@ -2,27 +2,12 @@
 ghost use mathlib.Core.Path.{_≡_};
 ghost use Prim.Native.Nat.{_+_, _*_, _<_, _≤_};
 ghost use lib.ListN.{length};
-ghost use Rattle.commands.specs.Reading.{wordAt, formOf, operandsOf, count, operandAt, orderAt, ReadsForm, Reads};
+ghost use Rattle.commands.specs.Reading.{formOf, operandsOf, count, operandAt, orderAt, ReadsForm, Reads};
 ghost use Rattle.commands.specs.declared.Operands.the-variants.{Words, Listed};
 use super::Operands;
 use super::Order;
 use super::Reading;
-
-// A byte as a word.
-fn wide(x: u8) -> u32
-    ensures { λ r. ⌜ (r ≡ x) × (r < 256) ⌝ }
-{
-    x as u32
-}
-
-// The word at a place, low byte first.
-pub fn word(script: &[u8], at: usize) -> u32
-    requires { ⌜ at + 4 ≤ length (now script) ⌝ }
-    ensures { λ r. ⌜ r ≡ wordAt (now (script .entry)) at ⌝ }
-{
-    wide(script[at])
-        + 256 * (wide(script[at + 1]) + 256 * (wide(script[at + 2]) + 256 * wide(script[at + 3])))
-}
+use records::bytes;
 
 // What follows a command byte.
 fn operands_of(byte: u8) -> Operands
@@ -79,7 +64,7 @@ fn operand(script: &[u8], from: usize, n: usize, i: usize) -> u32
     ensures { λ r. ⌜ r ≡ operandAt (now (script .entry)) from n i ⌝ }
 {
     if i < n {
-        return word(script, from + 4 * i);
+        return bytes::word(script, from + 4 * i);
     }
     0
 }
@@ -129,7 +114,7 @@ fn read_listed(script: &[u8], byte: u8, from: usize) -> Reading
     if left < 8 {
         return Reading::Unreadable;
     }
-    let m = word(script, from + 4) as usize;
+    let m = bytes::word(script, from + 4) as usize;
     if left - 8 < 4 * m {
         return Reading::Unreadable;
     }

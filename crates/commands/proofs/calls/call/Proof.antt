@@ -1,6 +1,6 @@
 use Rattle.commands.specs.Bytes.{forms, at, input, done}
 use Rattle.commands.specs.Calls.{perform}
-use Rattle.commands.specs.Reading.{operandsOf, count, made, ordered}
+use Rattle.commands.specs.Reading.{operandsOf, count, made, ordered, wordedOf}
 use Rattle.commands.proofs.CallLaws.{last-byte}
 use borrow.Author.Needs.{needs}
 use Rattle.commands.proofs.calls.call.Statement.{statement}
@@ -57,14 +57,8 @@ output-info-requires c κs = search needs
 replace-glyph-requires : tie.Need-replace-glyph-requires
 replace-glyph-requires c κs = search needs
 
-cast-replace-glyphs : tie.Need-cast-replace-glyphs
-cast-replace-glyphs c = search needs
-
-cast-replace-glyphs-2 : tie.Need-cast-replace-glyphs-2
-cast-replace-glyphs-2 c = search needs
-
 replace-glyphs-requires : tie.Need-replace-glyphs-requires
-replace-glyphs-requires c κs = search needs
+replace-glyphs-requires c κs = c .before .before .before .before .before .before .pre .1 (c .before .before .match .keys15)
 
 delete-glyph-requires : tie.Need-delete-glyph-requires
 delete-glyph-requires c κs = search needs
@@ -75,38 +69,38 @@ cast-move-to c = search needs
 move-to-requires : tie.Need-move-to-requires
 move-to-requires c κs = search needs
 
+cast-t85 : tie.Need-cast-t85
+cast-t85 c = search needs
+
 cast-t87 : tie.Need-cast-t87
 cast-t87 c = search needs
-
-cast-t89 : tie.Need-cast-t89
-cast-t89 c = search needs
 
 merge-clusters-requires : tie.Need-merge-clusters-requires
 merge-clusters-requires c κs = search needs
 
+cast-t93 : tie.Need-cast-t93
+cast-t93 c = search needs
+
 cast-t95 : tie.Need-cast-t95
 cast-t95 c = search needs
-
-cast-t97 : tie.Need-cast-t97
-cast-t97 c = search needs
 
 merge-out-clusters-requires : tie.Need-merge-out-clusters-requires
 merge-out-clusters-requires c κs = search needs
 
+cast-t101 : tie.Need-cast-t101
+cast-t101 c = search needs
+
 cast-t103 : tie.Need-cast-t103
 cast-t103 c = search needs
-
-cast-t105 : tie.Need-cast-t105
-cast-t105 c = search needs
 
 merge-grapheme-clusters-requires : tie.Need-merge-grapheme-clusters-requires
 merge-grapheme-clusters-requires c κs = search needs
 
+cast-t109 : tie.Need-cast-t109
+cast-t109 c = search needs
+
 cast-t111 : tie.Need-cast-t111
 cast-t111 c = search needs
-
-cast-t113 : tie.Need-cast-t113
-cast-t113 c = search needs
 
 merge-out-grapheme-clusters-requires : tie.Need-merge-out-grapheme-clusters-requires
 merge-out-grapheme-clusters-requires c κs = search needs
@@ -132,11 +126,11 @@ set-masks-requires c κs = search needs
 reverse-requires : tie.Need-reverse-requires
 reverse-requires c κs = search needs
 
+cast-t145 : tie.Need-cast-t145
+cast-t145 c = search needs
+
 cast-t147 : tie.Need-cast-t147
 cast-t147 c = search needs
-
-cast-t149 : tie.Need-cast-t149
-cast-t149 c = search needs
 
 reverse-range-requires : tie.Need-reverse-range-requires
 reverse-range-requires c κs = search needs
@@ -150,11 +144,11 @@ reverse-graphemes-requires c κs = search needs
 reset-clusters-requires : tie.Need-reset-clusters-requires
 reset-clusters-requires c κs = search needs
 
+cast-t165 : tie.Need-cast-t165
+cast-t165 c = search needs
+
 cast-t167 : tie.Need-cast-t167
 cast-t167 c = search needs
-
-cast-t169 : tie.Need-cast-t169
-cast-t169 c = search needs
 
 sort-requires : tie.Need-sort-requires
 sort-requires c κs = search needs
@@ -184,7 +178,7 @@ same-length-2 : tie.Need-same-length-2
 same-length-2 c = search needs
 
 returns : tie.Need-returns
-unfolding ordered made forms operandsOf count at input done perform
+unfolding wordedOf ordered made forms operandsOf count at input done perform
 returns c = rw (c .before .before .before .match .keys1) (c .fresh .ensures)
 
 same-length-3 : tie.Need-same-length-3
@@ -194,7 +188,7 @@ same-length-4 : tie.Need-same-length-4
 same-length-4 c = search needs
 
 returns-2 : tie.Need-returns-2
-unfolding ordered made forms operandsOf count at input done perform
+unfolding wordedOf ordered made forms operandsOf count at input done perform
 returns-2 c = rw (c .before .before .before .before .before .before .before .match .keys2) (c .before .before .before .before .push .ensures)
 
 same-length-5 : tie.Need-same-length-5
@@ -204,7 +198,7 @@ same-length-6 : tie.Need-same-length-6
 same-length-6 c = search needs
 
 returns-3 : tie.Need-returns-3
-unfolding ordered made forms operandsOf count at input done perform
+unfolding wordedOf ordered made forms operandsOf count at input done perform
 returns-3 c = rw (c .before .before .before .before .before .before .before .before .match .keys3) (c .before .before .before .before .set-length .ensures)
 
 same-length-7 : tie.Need-same-length-7
@@ -214,7 +208,7 @@ same-length-8 : tie.Need-same-length-8
 same-length-8 c = search needs
 
 returns-4 : tie.Need-returns-4
-unfolding ordered made forms operandsOf count at input done perform
+unfolding wordedOf ordered made forms operandsOf count at input done perform
 returns-4 c = rw (c .before .before .before .match .keys4) (c .clear-output .ensures)
 
 same-length-9 : tie.Need-same-length-9
@@ -224,7 +218,7 @@ same-length-10 : tie.Need-same-length-10
 same-length-10 c = search needs
 
 returns-5 : tie.Need-returns-5
-unfolding ordered made forms operandsOf count at input done perform
+unfolding wordedOf ordered made forms operandsOf count at input done perform
 returns-5 c = rw (c .before .before .before .before .before .before .before .match .keys5) (c .before .before .before .before .sync .ensures)
 
 same-length-11 : tie.Need-same-length-11
@@ -234,7 +228,7 @@ same-length-12 : tie.Need-same-length-12
 same-length-12 c = search needs
 
 returns-6 : tie.Need-returns-6
-unfolding ordered made forms operandsOf count at input done perform
+unfolding wordedOf ordered made forms operandsOf count at input done perform
 returns-6 c = rw (c .before .before .before .before .before .before .before .match .keys6) (c .before .before .before .before .clear-positions .ensures)
 
 same-length-13 : tie.Need-same-length-13
@@ -244,7 +238,7 @@ same-length-14 : tie.Need-same-length-14
 same-length-14 c = search needs
 
 returns-7 : tie.Need-returns-7
-unfolding ordered made forms operandsOf count at input done perform
+unfolding wordedOf ordered made forms operandsOf count at input done perform
 returns-7 c = rw (c .before .before .before .before .before .before .before .before .match .keys7) (c .before .before .before .before .place .ensures)
 
 same-length-15 : tie.Need-same-length-15
@@ -254,7 +248,7 @@ same-length-16 : tie.Need-same-length-16
 same-length-16 c = search needs
 
 returns-8 : tie.Need-returns-8
-unfolding ordered made forms operandsOf count at input done perform
+unfolding wordedOf ordered made forms operandsOf count at input done perform
 returns-8 c = rw (c .before .before .before .before .before .before .before .match .keys8) (c .before .before .before .before .next-glyph .ensures)
 
 same-length-17 : tie.Need-same-length-17
@@ -264,7 +258,7 @@ same-length-18 : tie.Need-same-length-18
 same-length-18 c = search needs
 
 returns-9 : tie.Need-returns-9
-unfolding ordered made forms operandsOf count at input done perform
+unfolding wordedOf ordered made forms operandsOf count at input done perform
 returns-9 c = rw (c .before .before .before .before .before .before .before .before .match .keys9) (c .before .before .before .before .next-glyphs .ensures)
 
 same-length-19 : tie.Need-same-length-19
@@ -274,7 +268,7 @@ same-length-20 : tie.Need-same-length-20
 same-length-20 c = search needs
 
 returns-10 : tie.Need-returns-10
-unfolding ordered made forms operandsOf count at input done perform
+unfolding wordedOf ordered made forms operandsOf count at input done perform
 returns-10 c = rw (c .before .before .before .match .keys10) (c .skip-glyph .ensures)
 
 same-length-21 : tie.Need-same-length-21
@@ -284,7 +278,7 @@ same-length-22 : tie.Need-same-length-22
 same-length-22 c = search needs
 
 returns-11 : tie.Need-returns-11
-unfolding ordered made forms operandsOf count at input done perform
+unfolding wordedOf ordered made forms operandsOf count at input done perform
 returns-11 c = rw (c .before .before .before .before .before .before .before .match .keys11) (c .before .before .before .before .copy-glyph .ensures)
 
 same-length-23 : tie.Need-same-length-23
@@ -294,7 +288,7 @@ same-length-24 : tie.Need-same-length-24
 same-length-24 c = search needs
 
 returns-12 : tie.Need-returns-12
-unfolding ordered made forms operandsOf count at input done perform
+unfolding wordedOf ordered made forms operandsOf count at input done perform
 returns-12 c = rw (c .before .before .before .before .before .before .before .match .keys12) (c .before .before .before .before .output-glyph .ensures)
 
 same-length-25 : tie.Need-same-length-25
@@ -304,7 +298,7 @@ same-length-26 : tie.Need-same-length-26
 same-length-26 c = search needs
 
 returns-13 : tie.Need-returns-13
-unfolding ordered made forms operandsOf count at input done perform
+unfolding wordedOf ordered made forms operandsOf count at input done perform
 returns-13 c = rw (c .before .before .before .before .before .before .before .match .keys13) (c .before .before .before .before .output-info .ensures)
 
 same-length-27 : tie.Need-same-length-27
@@ -314,7 +308,7 @@ same-length-28 : tie.Need-same-length-28
 same-length-28 c = search needs
 
 returns-14 : tie.Need-returns-14
-unfolding ordered made forms operandsOf count at input done perform
+unfolding wordedOf ordered made forms operandsOf count at input done perform
 returns-14 c = rw (c .before .before .before .before .before .before .before .match .keys14) (c .before .before .before .before .replace-glyph .ensures)
 
 same-length-29 : tie.Need-same-length-29
@@ -324,8 +318,8 @@ same-length-30 : tie.Need-same-length-30
 same-length-30 c = search needs
 
 returns-15 : tie.Need-returns-15
-unfolding ordered made forms operandsOf count at input done perform
-returns-15 c = rw (c .before .before .before .before .before .before .before .before .before .match .keys15) (c .before .before .before .before .replace-glyphs .ensures)
+unfolding wordedOf ordered made forms operandsOf count at input done perform
+returns-15 c = rw (c .before .before .before .before .before .before .before .match .keys15) (c .before .before .before .before .replace-glyphs .ensures)
 
 same-length-31 : tie.Need-same-length-31
 same-length-31 c = search needs
@@ -334,7 +328,7 @@ same-length-32 : tie.Need-same-length-32
 same-length-32 c = search needs
 
 returns-16 : tie.Need-returns-16
-unfolding ordered made forms operandsOf count at input done perform
+unfolding wordedOf ordered made forms operandsOf count at input done perform
 returns-16 c = rw (c .before .before .before .before .before .before .before .match .keys16) (c .before .before .before .before .delete-glyph .ensures)
 
 same-length-33 : tie.Need-same-length-33
@@ -344,7 +338,7 @@ same-length-34 : tie.Need-same-length-34
 same-length-34 c = search needs
 
 returns-17 : tie.Need-returns-17
-unfolding ordered made forms operandsOf count at input done perform
+unfolding wordedOf ordered made forms operandsOf count at input done perform
 returns-17 c = rw (c .before .before .before .before .before .before .before .before .match .keys17) (c .before .before .before .before .move-to .ensures)
 
 same-length-35 : tie.Need-same-length-35
@@ -354,7 +348,7 @@ same-length-36 : tie.Need-same-length-36
 same-length-36 c = search needs
 
 returns-18 : tie.Need-returns-18
-unfolding ordered made forms operandsOf count at input done perform
+unfolding wordedOf ordered made forms operandsOf count at input done perform
 returns-18 c = rw (c .before .before .before .before .before .before .before .before .before .match .keys18) (c .before .before .before .before .merge-clusters .ensures)
 
 same-length-37 : tie.Need-same-length-37
@@ -364,7 +358,7 @@ same-length-38 : tie.Need-same-length-38
 same-length-38 c = search needs
 
 returns-19 : tie.Need-returns-19
-unfolding ordered made forms operandsOf count at input done perform
+unfolding wordedOf ordered made forms operandsOf count at input done perform
 returns-19 c = rw (c .before .before .before .before .before .before .before .before .before .match .keys19) (c .before .before .before .before .merge-out-clusters .ensures)
 
 same-length-39 : tie.Need-same-length-39
@@ -374,7 +368,7 @@ same-length-40 : tie.Need-same-length-40
 same-length-40 c = search needs
 
 returns-20 : tie.Need-returns-20
-unfolding ordered made forms operandsOf count at input done perform
+unfolding wordedOf ordered made forms operandsOf count at input done perform
 returns-20 c = rw (c .before .before .before .before .before .before .before .before .before .match .keys20) (c .before .before .before .before .merge-grapheme-clusters .ensures)
 
 same-length-41 : tie.Need-same-length-41
@@ -384,7 +378,7 @@ same-length-42 : tie.Need-same-length-42
 same-length-42 c = search needs
 
 returns-21 : tie.Need-returns-21
-unfolding ordered made forms operandsOf count at input done perform
+unfolding wordedOf ordered made forms operandsOf count at input done perform
 returns-21 c = rw (c .before .before .before .before .before .before .before .before .before .match .keys21) (c .before .before .before .before .merge-out-grapheme-clusters .ensures)
 
 same-length-43 : tie.Need-same-length-43
@@ -394,7 +388,7 @@ same-length-44 : tie.Need-same-length-44
 same-length-44 c = search needs
 
 returns-22 : tie.Need-returns-22
-unfolding ordered made forms operandsOf count at input done perform
+unfolding wordedOf ordered made forms operandsOf count at input done perform
 returns-22 c = rw (c .before .before .before .before .before .before .before .match .keys22) (c .before .before .before .before .unsafe-to-break .ensures)
 
 same-length-45 : tie.Need-same-length-45
@@ -404,7 +398,7 @@ same-length-46 : tie.Need-same-length-46
 same-length-46 c = search needs
 
 returns-23 : tie.Need-returns-23
-unfolding ordered made forms operandsOf count at input done perform
+unfolding wordedOf ordered made forms operandsOf count at input done perform
 returns-23 c = rw (c .before .before .before .before .before .before .before .match .keys23) (c .before .before .before .before .unsafe-to-concat .ensures)
 
 same-length-47 : tie.Need-same-length-47
@@ -414,7 +408,7 @@ same-length-48 : tie.Need-same-length-48
 same-length-48 c = search needs
 
 returns-24 : tie.Need-returns-24
-unfolding ordered made forms operandsOf count at input done perform
+unfolding wordedOf ordered made forms operandsOf count at input done perform
 returns-24 c = rw (c .before .before .before .before .before .before .before .match .keys24) (c .before .before .before .before .safe-to-insert-tatweel .ensures)
 
 same-length-49 : tie.Need-same-length-49
@@ -424,7 +418,7 @@ same-length-50 : tie.Need-same-length-50
 same-length-50 c = search needs
 
 returns-25 : tie.Need-returns-25
-unfolding ordered made forms operandsOf count at input done perform
+unfolding wordedOf ordered made forms operandsOf count at input done perform
 returns-25 c = rw (c .before .before .before .before .before .before .before .match .keys25) (c .before .before .before .before .unsafe-to-break-from-outbuffer .ensures)
 
 same-length-51 : tie.Need-same-length-51
@@ -434,7 +428,7 @@ same-length-52 : tie.Need-same-length-52
 same-length-52 c = search needs
 
 returns-26 : tie.Need-returns-26
-unfolding ordered made forms operandsOf count at input done perform
+unfolding wordedOf ordered made forms operandsOf count at input done perform
 returns-26 c = rw (c .before .before .before .before .before .before .before .match .keys26) (c .before .before .before .before .unsafe-to-concat-from-outbuffer .ensures)
 
 same-length-53 : tie.Need-same-length-53
@@ -444,7 +438,7 @@ same-length-54 : tie.Need-same-length-54
 same-length-54 c = search needs
 
 returns-27 : tie.Need-returns-27
-unfolding ordered made forms operandsOf count at input done perform
+unfolding wordedOf ordered made forms operandsOf count at input done perform
 returns-27 c = rw (c .before .before .before .before .before .before .before .match .keys27) (c .before .before .before .before .set-masks .ensures)
 
 same-length-55 : tie.Need-same-length-55
@@ -454,7 +448,7 @@ same-length-56 : tie.Need-same-length-56
 same-length-56 c = search needs
 
 returns-28 : tie.Need-returns-28
-unfolding ordered made forms operandsOf count at input done perform
+unfolding wordedOf ordered made forms operandsOf count at input done perform
 returns-28 c = rw (c .before .before .before .before .before .before .before .match .keys28) (c .before .before .before .before .reverse .ensures)
 
 same-length-57 : tie.Need-same-length-57
@@ -464,7 +458,7 @@ same-length-58 : tie.Need-same-length-58
 same-length-58 c = search needs
 
 returns-29 : tie.Need-returns-29
-unfolding ordered made forms operandsOf count at input done perform
+unfolding wordedOf ordered made forms operandsOf count at input done perform
 returns-29 c = rw (c .before .before .before .before .before .before .before .before .before .match .keys29) (c .before .before .before .before .reverse-range .ensures)
 
 same-length-59 : tie.Need-same-length-59
@@ -474,7 +468,7 @@ same-length-60 : tie.Need-same-length-60
 same-length-60 c = search needs
 
 returns-30 : tie.Need-returns-30
-unfolding ordered made forms operandsOf count at input done perform
+unfolding wordedOf ordered made forms operandsOf count at input done perform
 returns-30 c = rw (c .before .before .before .before .before .before .before .match .keys30) (c .before .before .before .before .reverse-clusters .ensures)
 
 same-length-61 : tie.Need-same-length-61
@@ -484,7 +478,7 @@ same-length-62 : tie.Need-same-length-62
 same-length-62 c = search needs
 
 returns-31 : tie.Need-returns-31
-unfolding ordered made forms operandsOf count at input done perform
+unfolding wordedOf ordered made forms operandsOf count at input done perform
 returns-31 c = rw (c .before .before .before .before .before .before .before .match .keys31) (c .before .before .before .before .reverse-graphemes .ensures)
 
 same-length-63 : tie.Need-same-length-63
@@ -494,7 +488,7 @@ same-length-64 : tie.Need-same-length-64
 same-length-64 c = search needs
 
 returns-32 : tie.Need-returns-32
-unfolding ordered made forms operandsOf count at input done perform
+unfolding wordedOf ordered made forms operandsOf count at input done perform
 returns-32 c = rw (c .before .before .before .before .before .before .before .match .keys32) (c .before .before .before .before .reset-clusters .ensures)
 
 same-length-65 : tie.Need-same-length-65
@@ -504,7 +498,7 @@ same-length-66 : tie.Need-same-length-66
 same-length-66 c = search needs
 
 returns-33 : tie.Need-returns-33
-unfolding ordered made forms operandsOf count at input done perform
+unfolding wordedOf ordered made forms operandsOf count at input done perform
 returns-33 c = rw (c .before .before .before .before .before .before .before .before .before .match .keys33) (c .before .before .before .before .sort .ensures)
 
 same-length-67 : tie.Need-same-length-67
@@ -514,7 +508,7 @@ same-length-68 : tie.Need-same-length-68
 same-length-68 c = search needs
 
 returns-34 : tie.Need-returns-34
-unfolding ordered made forms operandsOf count at input done perform
+unfolding wordedOf ordered made forms operandsOf count at input done perform
 returns-34 c = rw (c .before .before .before .before .before .before .before .match .keys34) (c .before .before .before .before .delete-glyphs-inplace .ensures)
 
 same-length-69 : tie.Need-same-length-69
@@ -524,7 +518,7 @@ same-length-70 : tie.Need-same-length-70
 same-length-70 c = search needs
 
 returns-35 : tie.Need-returns-35
-unfolding ordered made forms operandsOf count at input done perform
+unfolding wordedOf ordered made forms operandsOf count at input done perform
 returns-35 c = rw (c .before .before .before .before .before .before .before .match .keys35) (c .before .before .before .before .form-clusters .ensures)
 
 same-length-71 : tie.Need-same-length-71
@@ -534,7 +528,7 @@ same-length-72 : tie.Need-same-length-72
 same-length-72 c = search needs
 
 returns-36 : tie.Need-returns-36
-unfolding ordered made forms operandsOf count at input done perform
+unfolding wordedOf ordered made forms operandsOf count at input done perform
 returns-36 c = rw (c .before .before .before .before .before .before .before .match .keys36) (c .before .before .before .before .propagate-flags .ensures)
 
 same-length-73 : tie.Need-same-length-73
@@ -544,7 +538,7 @@ same-length-74 : tie.Need-same-length-74
 same-length-74 c = search needs
 
 returns-37 : tie.Need-returns-37
-unfolding ordered made forms operandsOf count at input done perform
+unfolding wordedOf ordered made forms operandsOf count at input done perform
 returns-37 c = rw (c .before .before .before .match .keys37) (c .enter .ensures)
 
 same-length-75 : tie.Need-same-length-75
@@ -554,7 +548,7 @@ same-length-76 : tie.Need-same-length-76
 same-length-76 c = search needs
 
 returns-38 : tie.Need-returns-38
-unfolding ordered made forms operandsOf count at input done perform
+unfolding wordedOf ordered made forms operandsOf count at input done perform
 returns-38 c = rw (c .before .before .before .match .keys38) (c .leave .ensures)
 
 same-length-77 : tie.Need-same-length-77
@@ -564,8 +558,8 @@ same-length-78 : tie.Need-same-length-78
 same-length-78 c = search needs
 
 returns-39 : tie.Need-returns-39
-unfolding ordered made forms operandsOf count at input done perform
-returns-39 c = rw (last-byte _ (c .before .before .before .match .rest) (c .before .before .before .before .before .before .before .pre)) (c .allocate-lig-id .ensures)
+unfolding wordedOf ordered made forms operandsOf count at input done perform
+returns-39 c = rw (last-byte _ (c .before .before .before .match .rest) (c .before .before .before .before .before .before .before .pre .0)) (c .allocate-lig-id .ensures)
 
 pub call-spec : {M : Type 1} → statement M
 call-spec =
@@ -588,23 +582,21 @@ call-spec =
     output-glyph-requires
     output-info-requires
     replace-glyph-requires
-    cast-replace-glyphs
-    cast-replace-glyphs-2
     replace-glyphs-requires
     delete-glyph-requires
     cast-move-to
     move-to-requires
+    cast-t85
     cast-t87
-    cast-t89
     merge-clusters-requires
+    cast-t93
     cast-t95
-    cast-t97
     merge-out-clusters-requires
+    cast-t101
     cast-t103
-    cast-t105
     merge-grapheme-clusters-requires
+    cast-t109
     cast-t111
-    cast-t113
     merge-out-grapheme-clusters-requires
     unsafe-to-break-requires
     unsafe-to-concat-requires
@@ -613,14 +605,14 @@ call-spec =
     unsafe-to-concat-from-outbuffer-requires
     set-masks-requires
     reverse-requires
+    cast-t145
     cast-t147
-    cast-t149
     reverse-range-requires
     reverse-clusters-requires
     reverse-graphemes-requires
     reset-clusters-requires
+    cast-t165
     cast-t167
-    cast-t169
     sort-requires
     delete-glyphs-inplace-requires
     form-clusters-requires

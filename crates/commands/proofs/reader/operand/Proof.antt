@@ -1,5 +1,6 @@
 use mathlib.Core.Path.{sym, _∙_}
-use Rattle.commands.proofs.Readings.{operand-there, operand-none}
+use Rattle.records.proofs.ByteLaws.{word-there}
+use Rattle.commands.proofs.Readings.{operand-none}
 use borrow.Author.Needs.{needs}
 use Rattle.commands.proofs.reader.operand.Statement.{statement}
 use Rattle.commands.proofs.reader.operand.Tie as tie
@@ -14,7 +15,7 @@ word-requires : tie.Need-word-requires
 word-requires c κs = search needs
 
 returns : tie.Need-returns
-returns c = c .word .ensures ∙ sym (operand-there _ _ _ _ (c .before .if1 .taken))
+returns c = c .word .ensures ∙ sym (word-there _ _ _ _ (c .before .if1 .taken))
 
 returns-2 : tie.Need-returns-2
 returns-2 c = sym (operand-none _ _ _ _ (c .if1 .left))

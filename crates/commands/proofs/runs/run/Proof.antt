@@ -8,10 +8,10 @@ use Rattle.commands.proofs.runs.run.Statement.{statement}
 use Rattle.commands.proofs.runs.run.Tie as tie
 
 abbrev Inv-loop : tie.InvT-loop
-Inv-loop first₀ second₀ numbers₀ script last₀ commands₀ first second numbers last commands = Running script numbers₀ (last₀ .reply .buffer) first₀ second₀ numbers first second last commands
+Inv-loop first₀ second₀ script last₀ commands₀ first second last commands = Running script (last₀ .reply .buffer) first₀ second₀ first second last commands
 
 abbrev μ-loop : tie.MeasureT-loop
-μ-loop first₀ second₀ numbers₀ script last₀ commands₀ first second numbers last commands = length script - last .next
+μ-loop first₀ second₀ script last₀ commands₀ first second last commands = length script - last .next
 
 accepted-requires : tie.Need-accepted-requires Inv-loop μ-loop
 accepted-requires c κs = search needs
@@ -23,26 +23,23 @@ step-requires : tie.Need-step-requires Inv-loop μ-loop
 step-requires c κs = search needs
 
 add-commands : tie.Need-add-commands Inv-loop μ-loop
-add-commands c = omega (arith, c .before .before .before .before .before .before .before .before .before .before .before .before .loop .inv .few, c .before .before .before .before .before .before .before .before .before .before .if1 .taken, c .before .before .before .before .before .before .before .before .before .before .before .before .before .before .before .before .before .before .good .1 .1 .1 .1 .0)
+add-commands c = omega (arith, c .before .before .before .before .before .before .before .before .before .loop .inv .few, c .before .before .before .before .before .before .before .if1 .taken, c .before .before .before .before .before .before .before .before .before .before .before .before .before .before .good .1 .1 .1 .0)
 
 loop-less : tie.Need-loop-less Inv-loop μ-loop
 loop-less c =
-    let turn = c .before .before .before .before .before .before in
-    omega (arith, turn .step .ensures .onward (turn .before .before .before .before .if1 .taken), turn .before .before .before .before .if1 .taken)
+    let turn = c .before .before .before .before in
+    omega (arith, turn .step .ensures .onward (turn .before .before .before .if1 .taken), turn .before .before .before .if1 .taken)
 
 loop-again : tie.Need-loop-again Inv-loop μ-loop
 loop-again c =
-    let turn = c .before .before .before .before .before .before in
-    running-more (turn .before .before .before .before .before .before .loop .inv) (turn .before .before .before .before .if1 .taken) (turn .step .ensures) (turn .step .kept .1 .0) (turn .step .kept .1 .1 .0) (turn .step .kept .1 .1 .1 .0)
+    let turn = c .before .before .before .before in
+    running-more (turn .before .before .before .before .before .loop .inv) (turn .before .before .before .if1 .taken) (turn .step .ensures) (turn .step .kept .1 .0) (turn .step .kept .1 .1 .0)
 
 same-length : tie.Need-same-length Inv-loop μ-loop
 same-length c = c .before .before .before .loop .inv .first-len
 
 same-length-2 : tie.Need-same-length-2 Inv-loop μ-loop
 same-length-2 c = c .before .before .before .loop .inv .second-len
-
-same-length-3 : tie.Need-same-length-3 Inv-loop μ-loop
-same-length-3 c = c .before .before .before .loop .inv .third-len
 
 returns : tie.Need-returns Inv-loop μ-loop
 returns c = running-done (c .before .before .before .before .accepted .ensures) (c .before .before .before .loop .inv) (c .before .if1 .left)
@@ -61,5 +58,4 @@ run-spec =
     loop-again
     same-length
     same-length-2
-    same-length-3
     returns)

@@ -9,8 +9,8 @@ read-command-requires c κs = search needs
 enum-known-reading : tie.Need-enum-known-reading
 enum-known-reading c = search needs
 
-obey-requires : tie.Need-obey-requires
-obey-requires c κs = command-known _ (c .before .before .before .before .reading .given .1) (c .before .before .before .before .before .before .read-command .ensures)
+call-requires : tie.Need-call-requires
+call-requires c κs = command-known _ (c .before .before .before .reading .given .1) (c .before .before .before .before .before .read-command .ensures)
 
 enum-told : tie.Need-enum-told
 enum-told c = search needs
@@ -24,14 +24,11 @@ same-length c = search needs
 same-length-2 : tie.Need-same-length-2
 same-length-2 c = search needs
 
-same-length-3 : tie.Need-same-length-3
-same-length-3 c = search needs
-
 returns : tie.Need-returns
-returns c = step-obeyed _ _ _ (c .before .before .before .before .before .before .before .before .before .before .before .reading .given .1) (c .before .before .before .before .before .before .before .before .before .before .before .before .before .read-command .ensures) (c .before .before .before .before .before .before .obey .ensures)
+returns c = search (step-obeyed)
 
 returns-2 : tie.Need-returns-2
-returns-2 c = step-unread _ _ (c .before .enum-told .given .1) (c .before .before .before .read-command .ensures) (c .refusal .ensures)
+returns-2 c = search (step-unread)
 
 pub step-spec : {M : Type 1} → statement M
 step-spec =
@@ -39,11 +36,10 @@ step-spec =
     (tie.spec
     read-command-requires
     enum-known-reading
-    obey-requires
+    call-requires
     enum-told
     refusal-requires
     same-length
     same-length-2
-    same-length-3
     returns
     returns-2)
