@@ -1,16 +1,27 @@
--- From a fresh buffer over slices of 2,048 glyphs, a string comes to the account's own run.
-use mathlib.Core.{Path._≡_, Path._∙_, Bool.true, List.List}
-use Prim.Native.Nat.{ℕ, _*_, _≤_}
+-- From the first buffer over slices of 2,048 glyphs, a string comes to the account's own run.
+use mathlib.Core.{Path._≡_, Path.sym, Path.ap, Path._∙_, Bool.true, List.List}
+use Prim.Native.Nat.{ℕ}
+use native.Mathlib.Omega.{arith}
 use lib.ListN.{length}
-use Rattle.records.specs.Counters.{capacityOf, rightlyLent}
-use Rattle.lists.specs.{Account.freshAccount, State.sound, States.freshBuffer}
-use Rattle.lists.proofs.Simple.{fresh-account, fresh-sound}
-use Rattle.commands.specs.{Bytes.runBytes, Runs.outcomes}
-use Rattle.commands.proofs.{RunLaws.outcomes-are, StepLaws.quarter-lent}
+use Rattle.records.specs.{Answers.ok, Counters.capacityOf, Counters.rightlyLent}
+use Rattle.lists.specs.declared.{Reply.Reply}
+use Rattle.lists.specs.{Account.Account, Account.freshAccount, Results.Outcome, State.account, State.sound, Contract.outcomeOf, Contract.Begins}
+use Rattle.lists.proofs.Simple.{begun-fresh}
+use Rattle.commands.specs.{Bytes.runBytes, Runs.lastOf, Runs.outcomes, Runs.Runs}
+use Rattle.commands.specs.declared.Ran.{Ran}
+use Rattle.commands.proofs.RunLaws.{outcomes-are}
 
-start-sound : (f s : List ℕ) → 10240 ≡ length f → 10240 ≡ length s → sound (freshBuffer 0 0) f s ≡ true
-unfolding rightlyLent capacityOf
-start-sound f s ef es = fresh-sound 0 0 f s ∙ rw (← ef, ← es)
+module _ {b : Reply} (v : Begins 0 0 b) (t f s : List ℕ) (ef : 10240 ≡ length f) (es : 10240 ≡ length s) where
+  start-sound : sound (b .buffer) f s ≡ true
+  unfolding rightlyLent capacityOf
+  start-sound = v .is-sound f s ∙ rw (← ef, ← es)
 
-pub starts : (t : List ℕ) (n : ℕ) (f s : List ℕ) → 10240 ≡ length f → 10240 ≡ length s → length t ≤ 4 * n → outcomes t n (freshBuffer 0 0) f s ≡ runBytes 10240 10240 t (freshAccount 0 0)
-starts t n f s ef es h = outcomes-are t n (freshBuffer 0 0) f s (start-sound f s ef es) (quarter-lent t n h) ∙ rw (← ef, ← es, ← fresh-account 0 0 f s)
+  starts : outcomes t (b .buffer) f s ≡ runBytes 10240 10240 t (freshAccount 0 0)
+  starts = outcomes-are t (b .buffer) f s start-sound ∙ rw (← ef, ← es, begun-fresh (omega arith) v f s)
+
+  module _ {r : Ran} {f′ s′ : List ℕ} (w : Runs t (b .buffer) f s r f′ s′) where
+    pub comes-last : outcomeOf (r .reply) f′ s′ ≡ lastOf (record { answer = ok; after = freshAccount 0 0 }) (runBytes 10240 10240 t (freshAccount 0 0))
+    comes-last = w .last ∙ rw (starts, begun-fresh (omega arith) v f s)
+
+    pub comes-to : r .commands ≡ length (runBytes 10240 10240 t (freshAccount 0 0))
+    comes-to = w .all ∙ ap (λ (l : List (Outcome ℕ)). length l) starts

@@ -1,5 +1,6 @@
 // Compares lines with a text.
 ghost use mathlib.Core.Path.{_≡_};
+ghost use Rattle.records.specs.Answers.{said};
 ghost use Rattle.commands.specs.Lines.{answerLine, lineOf, reported};
 ghost use Rattle.replay.specs.Lines.{Finds, Compared, oneMore};
 use super::Found;
@@ -70,7 +71,7 @@ fn compare(t: Tally, line: &[u8], text: &[u8]) -> Tally
 
 // The line of a command.
 pub(crate) fn answer(t: Tally, byte: u8, answer: Answer, text: &[u8]) -> Tally
-    ensures { λ r. ⌜ Compared (answerLine byte answer) (now (text .entry)) t r ⌝ }
+    ensures { λ r. ⌜ Compared (answerLine byte (said answer)) (now (text .entry)) t r ⌝ }
 {
     let mut line = [0u8; 96];
     let n = commands::lines::answer_line(&mut line, 0, byte, answer);

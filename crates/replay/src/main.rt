@@ -39,15 +39,8 @@ fn more(n: u64) -> u64
 fn main() {
     let mut first = rooms::words();
     let mut second = rooms::words();
-    let mut numbers = rooms::numbers();
     let mut script = rooms::script();
     let mut text = rooms::text();
-    let t = playing::all(
-        &mut first,
-        &mut second,
-        &mut numbers,
-        &mut script,
-        &mut text,
-    );
+    let t = playing::all(&mut first, &mut second, &mut script, &mut text);
     telling::counts(t);
 }

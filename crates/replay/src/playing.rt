@@ -7,21 +7,14 @@ use commands::Step;
 use commands::steps;
 
 // A list's commands, and what the buffer shows after them.
-fn play(
-    t: Tally,
-    first: &mut [u32],
-    second: &mut [u32],
-    numbers: &mut [u32],
-    script: &[u8],
-    text: &[u8],
-) -> Tally {
+fn play(t: Tally, first: &mut [u32], second: &mut [u32], script: &[u8], text: &[u8]) -> Tally {
     let mut r = t;
-    let reply = lists::state::accepted(lists::state::fresh_buffer(0, 0));
+    let reply = lists::Buffer::new(0, 0);
     let mut last = Step { reply, next: 0 };
     while last.next < script.len() {
         let at = last.next;
         let byte = script[at];
-        last = steps::step(last.reply.buffer, first, second, numbers, script, at);
+        last = steps::step(last.reply.buffer, first, second, script, at);
         let reply = last.reply;
         let answer = reply.answer;
         r = comparing::answer(r, byte, answer, text);
@@ -35,7 +28,6 @@ fn lent(
     t: Tally,
     first: &mut [u32],
     second: &mut [u32],
-    numbers: &mut [u32],
     script: &[u8],
     text: &[u8],
     capacity: usize,
@@ -47,14 +39,7 @@ fn lent(
         return reading::refused(t, b" has too large a capacity");
     }
     let end = 5 * capacity;
-    play(
-        t,
-        &mut first[..end],
-        &mut second[..end],
-        numbers,
-        script,
-        text,
-    )
+    play(t, &mut first[..end], &mut second[..end], script, text)
 }
 
 fn started(t: Tally) -> Tally {
@@ -70,7 +55,6 @@ fn one(
     t: Tally,
     first: &mut [u32],
     second: &mut [u32],
-    numbers: &mut [u32],
     script: &mut [u8],
     text: &mut [u8],
 ) -> Tally {
@@ -92,7 +76,6 @@ fn one(
         lines.tally,
         first,
         second,
-        numbers,
         &script[..n],
         &text[..m],
         start.value,
@@ -103,7 +86,6 @@ fn one(
 pub(crate) fn all(
     first: &mut [u32],
     second: &mut [u32],
-    numbers: &mut [u32],
     script: &mut [u8],
     text: &mut [u8],
 ) -> Tally {
@@ -121,7 +103,7 @@ pub(crate) fn all(
         if t.over {
             return t;
         }
-        t = one(t, first, second, numbers, script, text);
+        t = one(t, first, second, script, text);
     }
     t
 }

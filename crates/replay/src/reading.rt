@@ -62,7 +62,7 @@ fn bytes(t: Tally, room: &mut [u8]) -> Tally {
 fn next_number(t: Tally) -> Number {
     let mut room = [0u8; 4];
     let tally = bytes(t, &mut room);
-    let value = commands::reader::word(&room, 0) as usize;
+    let value = records::bytes::word(&room, 0) as usize;
     Number { tally, value }
 }
 
@@ -79,7 +79,7 @@ pub(crate) fn start(t: Tally) -> Number {
         let tally = refused(r, b" is cut off");
         return Number { tally, value: 0 };
     }
-    let value = commands::reader::word(&room, 0) as usize;
+    let value = records::bytes::word(&room, 0) as usize;
     Number { tally: r, value }
 }
 

@@ -16,13 +16,6 @@ pub(crate) fn script() -> [u8; 16384]
     [0; 16384]
 }
 
-// Glyph numbers of one command: a word for every four bytes of the commands.
-pub(crate) fn numbers() -> [u32; 4096]
-    ensures { λ r. ⌜ 4096 ≡ length r ⌝ }
-{
-    [0; 4096]
-}
-
 // The text of a list.
 pub(crate) fn text() -> [u8; 262144]
     ensures { λ r. ⌜ 262144 ≡ length r ⌝ }

@@ -1,12 +1,12 @@
 -- An answer as a number, and the buffer that the runs start from.
 use mathlib.Core.{Bool.true, Bool.false}
 use Prim.Native.Nat.{ℕ, _+_}
-use Rattle.records.specs.{Answer, Done, Value, No, Plain, Counters.refusalNumber}
+use Rattle.records.specs.{Plain, Answers.Said, Answers.ok, Answers.okWith, Answers.no}
 use Rattle.lists.specs.declared.{Buffer.Buffer}
 
 -- the value; 2 where there is none; 2 and the number of a refusal
-unfoldable pub codeOf : Answer → ℕ
-codeOf a = elim a [ Done ↦ 2 | Value v ↦ v | No r ↦ 2 + refusalNumber r ]
+unfoldable pub codeOf : Said → ℕ
+codeOf a = elim a [ ok ↦ 2 | okWith v ↦ v | no n ↦ 2 + n ]
 
 -- n glyphs at a level, as n pushes leave them
 unfoldable pub started : ℕ → ℕ → Buffer

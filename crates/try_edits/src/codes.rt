@@ -1,5 +1,6 @@
 // An answer as a number, and the buffer that the runs start from.
 ghost use mathlib.Core.Path.{_≡_};
+ghost use Rattle.records.specs.Answers.{said};
 ghost use Rattle.try_edits.specs.Codes.{codeOf, started};
 use lists::Buffer;
 use records::Answer;
@@ -9,7 +10,7 @@ use records::Phase;
 
 // The value; 2 where there is none; 2 and the number of a refusal.
 pub(crate) fn code(a: Answer) -> u32
-    ensures { λ r. ⌜ r ≡ codeOf a ⌝ }
+    ensures { λ r. ⌜ r ≡ codeOf (said a) ⌝ }
 {
     match a {
         Answer::Done => 2,

@@ -168,6 +168,16 @@ fn at(level: u32, wants: u32) {
     flagging_output(level, wants);
 }
 
+// A level above 3 reads as 0, in a state that is handed in too.
+fn above() {
+    reversing_graphemes(4);
+    sorting(4);
+    deleting_inplace(4);
+    forming_clusters(4);
+    flagging(4, 3);
+    flagging_output(4, 0);
+}
+
 pub(crate) fn all() {
     pushing();
     sizing();
@@ -184,4 +194,5 @@ pub(crate) fn all() {
     at(1, 2);
     at(2, 1);
     at(3, 0);
+    above();
 }

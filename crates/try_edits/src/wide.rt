@@ -170,12 +170,8 @@ fn step(b: Buffer, first: &mut [u32], second: &mut [u32], script: &[u8], at: usi
 pub(crate) fn play(level: u32, wants: u32, script: &[u8]) {
     let mut first = [0u32; 35];
     let mut second = [0u32; 35];
-    run(
-        lists::state::fresh_buffer(level, wants),
-        &mut first,
-        &mut second,
-        script,
-    );
+    let reply = Buffer::new(level, wants);
+    run(reply.buffer, &mut first, &mut second, script);
 }
 
 fn run(b: Buffer, first: &mut [u32], second: &mut [u32], script: &[u8]) {

@@ -8,10 +8,10 @@ use Rattle.exam.proofs.play.Statement.{statement}
 use Rattle.exam.proofs.play.Tie as tie
 
 abbrev Inv-loop : tie.InvT-loop
-Inv-loop first₀ second₀ numbers₀ script last₀ commands₀ first second numbers last commands = Running script numbers₀ (last₀ .reply .buffer) first₀ second₀ numbers first second last commands
+Inv-loop first₀ second₀ script last₀ commands₀ first second last commands = Running script (last₀ .reply .buffer) first₀ second₀ first second last commands
 
 abbrev μ-loop : tie.MeasureT-loop
-μ-loop first₀ second₀ numbers₀ script last₀ commands₀ first second numbers last commands = length script - last .next
+μ-loop first₀ second₀ script last₀ commands₀ first second last commands = length script - last .next
 
 accepted-requires : tie.Need-accepted-requires Inv-loop μ-loop
 accepted-requires c κs = search needs
@@ -24,33 +24,30 @@ step-requires c κs = search needs
 
 add-commands : tie.Need-add-commands Inv-loop μ-loop
 add-commands c =
-    let turn = c .before .before .before .before .before .before in
-    omega (arith, turn .before .before .before .before .before .before .loop .inv .few, turn .before .before .before .before .if1 .taken, turn .before .before .before .before .before .before .before .before .before .before .before .before .good .1 .1 .1 .1 .0)
+    let turn = c .before .before .before .before in
+    omega (arith, turn .before .before .before .before .before .loop .inv .few, turn .before .before .before .if1 .taken, turn .before .before .before .before .before .before .before .before .before .before .good .1 .1 .1 .0)
 
-shared-slice-read-print-answer : tie.Need-shared-slice-read-print-answer Inv-loop μ-loop
-shared-slice-read-print-answer c = c .before .before .before .before .before .before .before .before .before .before .before .if1 .taken
+shared-slice-read-answer : tie.Need-shared-slice-read-answer Inv-loop μ-loop
+shared-slice-read-answer c = search needs
 
-print-answer-requires : tie.Need-print-answer-requires Inv-loop μ-loop
-print-answer-requires c κs = search needs
+answer-requires : tie.Need-answer-requires Inv-loop μ-loop
+answer-requires c κs = search needs
 
 loop-less : tie.Need-loop-less Inv-loop μ-loop
 loop-less c =
-    let turn = c .before .before .before .before .before .before .before .before in
-    omega (arith, turn .step .ensures .onward (turn .before .before .before .before .if1 .taken), turn .before .before .before .before .if1 .taken)
+    let turn = c .before .before .before .before .before .before in
+    omega (arith, turn .step .ensures .onward (turn .before .before .before .if1 .taken), turn .before .before .before .if1 .taken)
 
 loop-again : tie.Need-loop-again Inv-loop μ-loop
 loop-again c =
-    let turn = c .before .before .before .before .before .before .before .before in
-    running-more (turn .before .before .before .before .before .before .loop .inv) (turn .before .before .before .before .if1 .taken) (turn .step .ensures) (turn .step .kept .1 .0) (turn .step .kept .1 .1 .0) (turn .step .kept .1 .1 .1 .0)
+    let turn = c .before .before .before .before .before .before in
+    running-more (turn .before .before .before .before .before .loop .inv) (turn .before .before .before .if1 .taken) (turn .step .ensures) (turn .step .kept .1 .0) (turn .step .kept .1 .1 .0)
 
 same-length : tie.Need-same-length Inv-loop μ-loop
 same-length c = c .before .before .before .loop .inv .first-len
 
 same-length-2 : tie.Need-same-length-2 Inv-loop μ-loop
 same-length-2 c = c .before .before .before .loop .inv .second-len
-
-same-length-3 : tie.Need-same-length-3 Inv-loop μ-loop
-same-length-3 c = c .before .before .before .loop .inv .third-len
 
 returns : tie.Need-returns Inv-loop μ-loop
 returns c = running-done (c .before .before .before .before .accepted .ensures) (c .before .before .before .loop .inv) (c .before .if1 .left)
@@ -65,11 +62,10 @@ play-spec =
     loop-holds
     step-requires
     add-commands
-    shared-slice-read-print-answer
-    print-answer-requires
+    shared-slice-read-answer
+    answer-requires
     loop-less
     loop-again
     same-length
     same-length-2
-    same-length-3
     returns)

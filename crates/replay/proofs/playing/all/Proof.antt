@@ -8,13 +8,13 @@ use Rattle.replay.proofs.playing.all.Statement.{statement}
 use Rattle.replay.proofs.playing.all.Tie as tie
 
 abbrev Inv-loop : tie.InvT-loop
-Inv-loop first₀ second₀ numbers₀ script₀ text₀ t₀ counter₀ first second numbers script text t counter = (counter ≤ 1000000) × (length first ≡ length first₀) × (length second ≡ length second₀) × (length numbers ≡ length numbers₀) × (length script ≡ length script₀) × (length text ≡ length text₀)
+Inv-loop first₀ second₀ script₀ text₀ t₀ counter₀ first second script text t counter = (counter ≤ 1000000) × (length first ≡ length first₀) × (length second ≡ length second₀) × (length script ≡ length script₀) × (length text ≡ length text₀)
 
 abbrev μ-loop : tie.MeasureT-loop
-μ-loop first₀ second₀ numbers₀ script₀ text₀ t₀ counter₀ first second numbers script text t counter = 1000000 - counter
+μ-loop first₀ second₀ script₀ text₀ t₀ counter₀ first second script text t counter = 1000000 - counter
 
 loop-holds : tie.Need-loop-holds Inv-loop μ-loop
-loop-holds c = (omega arith, refl, refl, refl, refl, refl)
+loop-holds c = (omega arith, refl, refl, refl, refl)
 
 same-length : tie.Need-same-length Inv-loop μ-loop
 same-length c = c .before .before .loop .inv .1
@@ -28,9 +28,6 @@ same-length-3 c = c .before .before .loop .inv .3
 same-length-4 : tie.Need-same-length-4 Inv-loop μ-loop
 same-length-4 c = c .before .before .loop .inv .4
 
-same-length-5 : tie.Need-same-length-5 Inv-loop μ-loop
-same-length-5 c = c .before .before .loop .inv .5
-
 returns : tie.Need-returns Inv-loop μ-loop
 returns c = search needs
 
@@ -38,31 +35,28 @@ one-requires : tie.Need-one-requires Inv-loop μ-loop
 one-requires c κs = search needs
 
 add-counter : tie.Need-add-counter Inv-loop μ-loop
-add-counter c = omega (arith, c .before .before .before .before .before .before .before .before .before .before .before .before .before .before .before .before .before .loop-test .taken)
+add-counter c = omega (arith, c .before .before .before .before .before .before .before .before .before .before .before .before .before .before .loop-test .taken)
 
 loop-less : tie.Need-loop-less Inv-loop μ-loop
-loop-less c = omega (arith, c .before .before .before .before .before .before .before .before .before .before .before .before .before .before .before .before .before .loop-test .taken)
+loop-less c = omega (arith, c .before .before .before .before .before .before .before .before .before .before .before .before .before .before .loop-test .taken)
 
 loop-again : tie.Need-loop-again Inv-loop μ-loop
 loop-again c =
-    let turn = c .before .before .before .before .before .before .before .before .before .before in
-    let inv = turn .before .before .before .before .before .before .before .before .loop .inv in
-    (omega (arith, turn .before .before .before .before .before .before .before .loop-test .taken), turn .one .kept .1 .0 ∙ inv .1, turn .one .kept .1 .1 .0 ∙ inv .2, turn .one .kept .1 .1 .1 .0 ∙ inv .3, turn .one .kept .1 .1 .1 .1 .0 ∙ inv .4, turn .one .kept .1 .1 .1 .1 .1 .0 ∙ inv .5)
+    let turn = c .before .before .before .before .before .before .before .before in
+    let inv = turn .before .before .before .before .before .before .before .loop .inv in
+    (omega (arith, turn .before .before .before .before .before .before .loop-test .taken), turn .one .kept .1 .0 ∙ inv .1, turn .one .kept .1 .1 .0 ∙ inv .2, turn .one .kept .1 .1 .1 .0 ∙ inv .3, turn .one .kept .1 .1 .1 .1 .0 ∙ inv .4)
+
+same-length-5 : tie.Need-same-length-5 Inv-loop μ-loop
+same-length-5 c = c .before .loop .inv .1
 
 same-length-6 : tie.Need-same-length-6 Inv-loop μ-loop
-same-length-6 c = c .before .loop .inv .1
+same-length-6 c = c .before .loop .inv .2
 
 same-length-7 : tie.Need-same-length-7 Inv-loop μ-loop
-same-length-7 c = c .before .loop .inv .2
+same-length-7 c = c .before .loop .inv .3
 
 same-length-8 : tie.Need-same-length-8 Inv-loop μ-loop
-same-length-8 c = c .before .loop .inv .3
-
-same-length-9 : tie.Need-same-length-9 Inv-loop μ-loop
-same-length-9 c = c .before .loop .inv .4
-
-same-length-10 : tie.Need-same-length-10 Inv-loop μ-loop
-same-length-10 c = c .before .loop .inv .5
+same-length-8 c = c .before .loop .inv .4
 
 returns-2 : tie.Need-returns-2 Inv-loop μ-loop
 returns-2 c = search needs
@@ -78,15 +72,13 @@ all-spec =
     same-length-2
     same-length-3
     same-length-4
-    same-length-5
     returns
     one-requires
     add-counter
     loop-less
     loop-again
+    same-length-5
     same-length-6
     same-length-7
     same-length-8
-    same-length-9
-    same-length-10
     returns-2)

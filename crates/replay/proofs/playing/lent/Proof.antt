@@ -47,9 +47,6 @@ same-length c = search needs
 same-length-2 : tie.Need-same-length-2
 same-length-2 c = search needs
 
-same-length-3 : tie.Need-same-length-3
-same-length-3 c = search needs
-
 returns-3 : tie.Need-returns-3
 returns-3 c = search needs
 
@@ -71,5 +68,4 @@ lent-spec =
     play-requires
     same-length
     same-length-2
-    same-length-3
     returns-3)

@@ -39,13 +39,13 @@ slice-reshare-prefix-lent : tie.Need-slice-reshare-prefix-lent
 slice-reshare-prefix-lent c = search needs
 
 slice-aggregate-lent : tie.Need-slice-aggregate-lent
-slice-aggregate-lent c = sym (length-take-le _ _ (omega (arith, c .before .before .before .before .before .before .before .before .before .before .before .before .string .ensures)))
+slice-aggregate-lent c = sym (length-take-le _ _ (omega (arith, c .before .before .before .before .before .before .before .before .before .before .before .string .ensures)))
 
 slice-reshare-prefix-lent-2 : tie.Need-slice-reshare-prefix-lent-2
 slice-reshare-prefix-lent-2 c = search needs
 
 slice-aggregate-lent-2 : tie.Need-slice-aggregate-lent-2
-slice-aggregate-lent-2 c = sym (length-take-le _ _ (omega (arith, c .before .before .before .before .before .before .before .before .string2 .ensures)))
+slice-aggregate-lent-2 c = sym (length-take-le _ _ (omega (arith, c .before .before .before .before .before .before .before .string2 .ensures)))
 
 lent-requires : tie.Need-lent-requires
 lent-requires c κs = search needs
@@ -61,9 +61,6 @@ same-length-6 c = search needs
 
 same-length-7 : tie.Need-same-length-7
 same-length-7 c = search needs
-
-same-length-8 : tie.Need-same-length-8
-same-length-8 c = search needs
 
 returns-4 : tie.Need-returns-4
 returns-4 c = search needs
@@ -91,5 +88,4 @@ one-spec =
     same-length-5
     same-length-6
     same-length-7
-    same-length-8
     returns-4)

@@ -8,19 +8,16 @@ use Rattle.replay.proofs.playing.play.Statement.{statement}
 use Rattle.replay.proofs.playing.play.Tie as tie
 
 abbrev Inv-loop : tie.InvT-loop
-Inv-loop first₀ second₀ numbers₀ script text r₀ last₀ first second numbers r last = (length first ≡ length first₀) × (length second ≡ length second₀) × (length numbers ≡ length numbers₀)
+Inv-loop first₀ second₀ script text r₀ last₀ first second r last = (length first ≡ length first₀) × (length second ≡ length second₀)
 
 abbrev μ-loop : tie.MeasureT-loop
-μ-loop first₀ second₀ numbers₀ script text r₀ last₀ first second numbers r last = length script - last .next
+μ-loop first₀ second₀ script text r₀ last₀ first second r last = length script - last .next
 
-fresh-buffer-requires : tie.Need-fresh-buffer-requires Inv-loop μ-loop
-fresh-buffer-requires c κs = search needs
-
-accepted-requires : tie.Need-accepted-requires Inv-loop μ-loop
-accepted-requires c κs = search needs
+new-requires : tie.Need-new-requires Inv-loop μ-loop
+new-requires c κs = search needs
 
 loop-holds : tie.Need-loop-holds Inv-loop μ-loop
-loop-holds c = (refl, refl, refl)
+loop-holds c = (refl, refl)
 
 shared-slice-read-byte : tie.Need-shared-slice-read-byte Inv-loop μ-loop
 shared-slice-read-byte c = search needs
@@ -33,15 +30,15 @@ answer-requires c κs = search needs
 
 loop-less : tie.Need-loop-less Inv-loop μ-loop
 loop-less c =
-    let turn = c .before .before .before .before .before .before .before .before in
-    let taken = turn .before .before .before .before .before .if1 .taken in
+    let turn = c .before .before .before .before .before .before in
+    let taken = turn .before .before .before .before .if1 .taken in
     omega (arith, turn .step .ensures .onward taken, taken)
 
 loop-again : tie.Need-loop-again Inv-loop μ-loop
 loop-again c =
-    let turn = c .before .before .before .before .before .before .before .before in
-    let inv = turn .before .before .before .before .before .before .before .loop .inv in
-    (turn .step .kept .1 .0 ∙ inv .0, turn .step .kept .1 .1 .0 ∙ inv .1, turn .step .kept .1 .1 .1 .0 ∙ inv .2)
+    let turn = c .before .before .before .before .before .before in
+    let inv = turn .before .before .before .before .before .before .loop .inv in
+    (turn .step .kept .1 .0 ∙ inv .0, turn .step .kept .1 .1 .0 ∙ inv .1)
 
 report-requires : tie.Need-report-requires Inv-loop μ-loop
 report-requires c κs = search needs
@@ -55,9 +52,6 @@ same-length c = c .before .before .before .before .before .before .loop .inv .0
 same-length-2 : tie.Need-same-length-2 Inv-loop μ-loop
 same-length-2 c = c .before .before .before .before .before .before .loop .inv .1
 
-same-length-3 : tie.Need-same-length-3 Inv-loop μ-loop
-same-length-3 c = c .before .before .before .before .before .before .loop .inv .2
-
 returns : tie.Need-returns Inv-loop μ-loop
 returns c = search needs
 
@@ -67,8 +61,7 @@ play-spec =
     (tie.spec
     Inv-loop
     μ-loop
-    fresh-buffer-requires
-    accepted-requires
+    new-requires
     loop-holds
     shared-slice-read-byte
     step-requires
@@ -79,5 +72,4 @@ play-spec =
     end-requires
     same-length
     same-length-2
-    same-length-3
     returns)

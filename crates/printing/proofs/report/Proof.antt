@@ -1,8 +1,8 @@
 use Prim.Native.Nat.{_-_}
 use native.Mathlib.Omega.{arith}
 use borrow.Author.Needs.{needs}
-use Rattle.exam.proofs.report.Statement.{statement}
-use Rattle.exam.proofs.report.Tie as tie
+use Rattle.printing.proofs.report.Statement.{statement}
+use Rattle.printing.proofs.report.Tie as tie
 
 abbrev Inv-loop : tie.InvT-loop
 Inv-loop b first second n k₀ k = Unit {0}
@@ -16,8 +16,8 @@ report-count-requires c κs = search needs
 loop-holds : tie.Need-loop-holds Inv-loop μ-loop
 loop-holds c = tt
 
-print-reported-requires : tie.Need-print-reported-requires Inv-loop μ-loop
-print-reported-requires c κs = search needs
+line-requires : tie.Need-line-requires Inv-loop μ-loop
+line-requires c κs = search needs
 
 add-k : tie.Need-add-k Inv-loop μ-loop
 add-k c = search needs
@@ -39,7 +39,7 @@ report-spec =
     μ-loop
     report-count-requires
     loop-holds
-    print-reported-requires
+    line-requires
     add-k
     loop-less
     loop-again

@@ -1,8 +1,8 @@
 use mathlib.Core.Path.{sym}
 use lib.Seq.{length-take-le}
 use borrow.Author.Needs.{needs}
-use Rattle.exam.proofs.print.Statement.{statement}
-use Rattle.exam.proofs.print.Tie as tie
+use Rattle.printing.proofs.print.Statement.{statement}
+use Rattle.printing.proofs.print.Tie as tie
 
 slice-aggregate-write-all : tie.Need-slice-aggregate-write-all
 slice-aggregate-write-all c = sym (length-take-le _ _ (c .before .if1 .taken))

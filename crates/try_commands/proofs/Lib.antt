@@ -1,0 +1,4 @@
+pub mod Loans
+pub mod Onward
+pub mod Readers
+pub mod Replies
