@@ -184,10 +184,6 @@ module _ (f : ℕ → ℕ) where
   unfolding runBytes
   runBytes-rename z first second bytes a = string-rename (step 0 first second) (λ w a. rw z at (step-rename f 0 first second w a)) bytes a
 
-  pub renamed-length : (bytes : List ℕ) → length (renamedBytes f bytes) ≡ length bytes
-  unfolding renamedBytes
-  renamed-length bytes = upTo-length (length bytes) bytes
-
 -- ---- where f takes words to words, a renamed string of bytes is one of bytes
 abbrev pub AreBytes : List ℕ → Type 0
 AreBytes [] = Unit {0}

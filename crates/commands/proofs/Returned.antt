@@ -5,7 +5,7 @@ use native.Mathlib.Omega.{arith}
 use lib.{ListN.length, ListN.drop, ListN.length-map}
 use Rattle.records.specs.{Contradiction, Answers.ok, Counters.capacityOf, Counters.rightlyLent}
 use Rattle.lists.specs.declared.{Buffer.Buffer, Reply.Reply}
-use Rattle.lists.specs.{Account.Account, Account.freshAccount, Account.renamed, Results.Result, Results.Outcome, Results.refused, Results.outcome, Results.refuse_when_else_, Cursor.fresh, State.account, State.sound, Contract.outcomeOf, Contract.Begins}
+use Rattle.lists.specs.{Account.Account, Account.renamed, Results.Result, Results.Outcome, Results.refused, Results.outcome, Results.refuse_when_else_, State.account, State.sound, Contract.outcomeOf, Contract.Begins}
 use Rattle.lists.proofs.{Renaming.begun-renamed, Accounts.sound-lent, Chains.meets-sound, Simple.refuse-yes}
 use Rattle.commands.specs.{Calls.Worded, Calls.perform, Calls.step, Calls.run, Bytes.readUpTo, Bytes.runRead, Renaming.renamedOutcome, Renaming.reworded, Renaming.renamedBytes}
 use Rattle.commands.specs.{Steps.called, Runs.lastOf, Runs.outcomes, Runs.Runs}
@@ -39,20 +39,7 @@ calls-run (w ∷ ws) (x ∷ xs) {p} {q} b f s ef es h c =
     let rest : map leftOf xs ≡ run 0 p q ws (account (x .reply .buffer) (x .first) (x .second)) = calls-run ws xs (x .reply .buffer) (x .first) (x .second) (c .1 .0 ∙ ef) (c .1 .1 ∙ es) (meets-sound m ∙ h) (c .2) in
     rw (← here) (ap (λ (l : List (Outcome ℕ)). leftOf x ∷ l) rest)
 
--- ---- the first buffer
--- the account that it begins with
-begun : (level wants : ℕ) → Account ℕ
-begun level wants = outcome (freshAccount level 0) (fresh level wants (freshAccount level 0)) .after
-
 module _ {level wants : ℕ} {r : Reply} (v : Begins level wants r) where
-  begun-account : (first second : List ℕ) → account (r .buffer) first second ≡ begun level wants
-  unfolding begun
-  begun-account first second = ap (λ (o : Outcome ℕ). o .after) (v .is first second)
-
-  starts : (f : ℕ → ℕ) (first second first′ second′ : List ℕ) → account (r .buffer) first′ second′ ≡ renamed f (account (r .buffer) first second)
-  unfolding begun
-  starts f first second first′ second′ = begun-account first′ second′ ∙ (sym (begun-renamed f level wants) ∙ ap (renamed f) (sym (begun-account first second)))
-
   -- Demand 3 of what direct calls return and leave: any functions that meet the calls' contracts, from the first buffer in slices of the same lengths
   pub demand-3-calls : (f : ℕ → ℕ) → f 0 ≡ 0 → (ws : List (Worded ℕ)) (first second first′ second′ : List ℕ) → SameLengths first second first′ second′ → (xs ys : List Left)
       → let b = r .buffer in
@@ -62,7 +49,7 @@ module _ {level wants : ℕ} {r : Reply} (v : Begins level wants r) where
       let b = r .buffer in
       let one : map leftOf xs ≡ run 0 (length first) (length second) ws (account b first second) = calls-run ws xs b first second refl refl (v .is-sound first second) c in
       let other : map leftOf ys ≡ run 0 (length first) (length second) (map (reworded f) ws) (account b first′ second′) = calls-run (map (reworded f) ws) ys b first′ second′ (e .0) (e .1) (rw (e .0, e .1) at (v .is-sound first′ second′)) d in
-      rw (one, other, starts f first second first′ second′) (rw z at (demand-3-from f 0 (length first) (length second) ws (account b first second)))
+      rw (one, other, begun-renamed v f first second first′ second′) (rw z at (demand-3-from f 0 (length first) (length second) ws (account b first second)))
 
 -- two wordings of direct calls, on one buffer that does not contradict itself
 pub two-wordings-calls : (ws others : List (Worded ℕ)) (b : Buffer) (first second : List ℕ) → sound b first second ≡ true → (xs ys : List Left)
@@ -103,7 +90,7 @@ module _ (f : ℕ → ℕ) (z : f 0 ≡ 0) where
     outcomes-rename =
         let b = r₀ .buffer in
         let same : sound b first′ second′ ≡ sound b first second = v .is-sound first′ second′ ∙ (ap (λ (k : ℕ). rightlyLent k (length second′)) (e .0) ∙ (ap (rightlyLent (length first)) (e .1) ∙ sym (v .is-sound first second))) in
-        rw (same, starts v f first second first′ second′, e .0, e .1) (string-rename f (called (sound b first second) (length first) (length second)) (called-rename (sound b first second) (length first) (length second)) script (account b first second))
+        rw (same, begun-renamed v f first second first′ second′, e .0, e .1) (string-rename f (called (sound b first second) (length first) (length second)) (called-rename (sound b first second) (length first) (length second)) script (account b first second))
 
     -- Demand 3 of what `step` returns and leaves, command by command, from the first buffer in slices of the same lengths
     pub demand-3-steps : (xs ys : List LeftAt)
@@ -115,7 +102,7 @@ module _ (f : ℕ → ℕ) (z : f 0 ≡ 0) where
         let one : map leftAt xs ≡ outcomes script b first second = steps-run script xs (length script) 0 b first second (omega arith) c in
         let other : map leftAt ys ≡ outcomes (renamedBytes f script) b first′ second′ = steps-run (renamedBytes f script) ys (length (renamedBytes f script)) 0 b first′ second′ (omega arith) d in
         record {
-          before = rw (starts v f first second first′ second′) (same-account f (account b first second));
+          before = rw (begun-renamed v f first second first′ second′) (same-account f (account b first second));
           after = rw (one, other, outcomes-rename) (same-outcomes f (outcomes script b first second));
         }
 
@@ -132,7 +119,7 @@ module _ (f : ℕ → ℕ) (z : f 0 ≡ 0) where
         let before : Outcome ℕ = record { answer = ok; after = account b first second } in
         let other : outcomeOf (r′ .reply) f₂ s₂ ≡ renamedOutcome f (lastOf before os)
         = d .last ∙ (ap (lastOf (record { answer = ok; after = account b first′ second′ })) renaming
-        ∙ (ap (λ (a : Account ℕ). lastOf (record { answer = ok; after = a }) (map (renamedOutcome f) os)) (starts v f first second first′ second′)
+        ∙ (ap (λ (a : Account ℕ). lastOf (record { answer = ok; after = a }) (map (renamedOutcome f) os)) (begun-renamed v f first second first′ second′)
         ∙ lastOf-map f before os)) in
         (rw (c .last, other) (same-outcome f (lastOf before os)), d .all ∙ (ap (λ (l : List (Outcome ℕ)). length l) renaming ∙ (length-map os (renamedOutcome f) ∙ sym (c .all))))
 

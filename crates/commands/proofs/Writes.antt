@@ -32,3 +32,7 @@ module _ {line l : List ℕ} {at : ℕ} where
 
   pub unprinted : leb (at + longest) (length l) ≡ false → Prints line l at at l
   unprinted h = let full : length l < at + longest = leb-false _ _ h in record { room = λ k. absurd (omega arith); none = λ k. (refl, refl); short = omega arith }
+
+-- a line that was written at the start of a room is as long as it says
+pub printed-length : {line before : List ℕ} {r : ℕ} {after : List ℕ} → Prints line before 0 r after → longest ≤ length before → r ≡ length line
+printed-length p h = omega (arith, p .room (omega arith) .next)

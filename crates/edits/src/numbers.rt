@@ -11,6 +11,7 @@ pub fn count(numbers: &[u32], bytes: &[u8]) -> usize
     numbers.len() + bytes.len() / 4
 }
 
+// The i-th of them.
 pub fn number_at(numbers: &[u32], bytes: &[u8], i: usize) -> u32
     requires { ⌜ i < length (given (now numbers) (now bytes)) ⌝ }
     ensures { λ r. ⌜ r ≡ getD (given (now (numbers .entry)) (now (bytes .entry))) i 0 ⌝ }

@@ -11,7 +11,7 @@ ghost use Rattle.lists.specs.Account.{sized, outLen};
 ghost use Rattle.lists.specs.State.{Held};
 ghost use Rattle.lists.specs.Moving.{SyncOutput};
 ghost use Rattle.lists.specs.Contract.{Meets, MeetsIn};
-ghost use Rattle.edits.specs.Writing.{writing, copyGlyph, outputGlyph, outputInfo, replaceGlyphs};
+ghost use Rattle.edits.specs.Writing.{writing, copyGlyph, outputGlyph, outputInfo};
 ghost use Rattle.edits.specs.Acts.{Acts, Roomy, Writable, Parted, replacing, writesOne, given};
 use super::numbers::number_at;
 use lists::Buffer;

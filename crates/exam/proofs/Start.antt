@@ -1,11 +1,11 @@
 -- From the first buffer over slices of 2,048 glyphs, a string comes to the account's own run.
-use mathlib.Core.{Path._≡_, Path.sym, Path.ap, Path._∙_, Bool.true, List.List}
+use mathlib.Core.{Path._≡_, Path.ap, Path._∙_, Bool.true, List.List}
 use Prim.Native.Nat.{ℕ}
 use native.Mathlib.Omega.{arith}
 use lib.ListN.{length}
 use Rattle.records.specs.{Answers.ok, Counters.capacityOf, Counters.rightlyLent}
 use Rattle.lists.specs.declared.{Reply.Reply}
-use Rattle.lists.specs.{Account.Account, Account.freshAccount, Results.Outcome, State.account, State.sound, Contract.outcomeOf, Contract.Begins}
+use Rattle.lists.specs.{Account.freshAccount, Results.Outcome, State.sound, Contract.outcomeOf, Contract.Begins}
 use Rattle.lists.proofs.Simple.{begun-fresh}
 use Rattle.commands.specs.{Bytes.runBytes, Runs.lastOf, Runs.outcomes, Runs.Runs}
 use Rattle.commands.specs.declared.Ran.{Ran}

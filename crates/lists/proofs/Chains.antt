@@ -2,13 +2,12 @@
 use mathlib.Core.{Path._≡_, Path.refl, Path.sym, Path.ap, Path._∙_, Bool.Bool, Bool.true, Bool.false, List.List}
 use Prim.Native.Nat.{ℕ}
 use lib.{ListN.length}
-use Rattle.records.specs.{Contradiction, No, Answers.said, Counters.capacityOf}
+use Rattle.records.specs.{Contradiction, Answers.said, Counters.capacityOf}
 use Rattle.lists.specs.declared.{Buffer.Buffer, Reply.Reply}
 use Rattle.lists.specs.Account.{Account}
-use Rattle.lists.specs.Results.{Result, refused, Outcome, outcome}
+use Rattle.lists.specs.Results.{Result, Outcome, outcome}
 use Rattle.lists.specs.State.{account, sound}
-use Rattle.lists.specs.States.{reply}
-use Rattle.lists.specs.Contract.{outcomeOf, judged, isNo, Meets}
+use Rattle.lists.specs.Contract.{outcomeOf, isNo, Meets}
 use Rattle.lists.proofs.Calls.{judged-sound, judged-unsound, outcome-refused}
 
 -- the account of a buffer that does not contradict itself, in slices of a capacity
@@ -36,22 +35,3 @@ module _ {b : Buffer} {f s : List ℕ} {r : Reply} {f′ s′ : List ℕ} where
       by : (x : Bool) → sound b f s ≡ x → sound (r .buffer) f′ s′ ≡ sound b f s
       by true e = m .stays-sound e ∙ sym e
       by false e = let q = m .stays (ap (λ (o : Outcome ℕ). isNo (o .answer)) (m .is ∙ (judged-unsound call b f s e ∙ outcome-refused (account b f s) Contradiction))) in rw (q .0, q .1, q .2)
-
-  -- calls that come to the same
-  pub meets-same : {call call′ : ℕ → Account ℕ → Result ℕ} → ((capacity : ℕ) (a : Account ℕ) → call capacity a ≡ call′ capacity a) → Meets call b f s r f′ s′ → Meets call′ b f s r f′ s′
-  unfolding judged
-  meets-same e m = record {
-    is = m .is ∙ rw (e (capacityOf (length f)) (account b f s));
-    stays = m .stays;
-    first-beyond = m .first-beyond;
-    second-beyond = m .second-beyond;
-    stays-sound = m .stays-sound;
-  }
-
--- refusal 1 of every call
-pub meets-contradiction : {call : ℕ → Account ℕ → Result ℕ} {b : Buffer} {f s : List ℕ} {r : Reply} → ((capacity : ℕ) (a : Account ℕ) → call capacity a ≡ refused Contradiction) → r ≡ reply b (No Contradiction) → Meets call b f s r f s
-meets-contradiction {call} {b} {f} {s} e er = rw er (record { is = sym (comes (sound b f s) refl ∙ outcome-refused (account b f s) Contradiction); stays = λ k. (refl, refl, refl); first-beyond = refl; second-beyond = refl; stays-sound = λ k. k })
-  where
-    comes : (x : Bool) → sound b f s ≡ x → judged call b f s ≡ outcome (account b f s) (refused Contradiction)
-    comes true h = judged-sound call b f s h ∙ ap (outcome (account b f s)) (e (capacityOf (length f)) (account b f s))
-    comes false h = judged-unsound call b f s h

@@ -1,11 +1,14 @@
 -- Renaming an account: the calls of this crate commute with it. Each law takes the renaming outwards.
-use mathlib.Core.{Path._≡_, Path.refl, Bool.Bool, Bool.true, Bool.false, Bool.cond, List.List, List.map}
+use mathlib.Core.{Path._≡_, Path.refl, Path.sym, Path.ap, Path._∙_, Bool.Bool, Bool.true, Bool.false, Bool.cond, List.List, List.map}
 use Prim.Native.Nat.{ℕ}
 use lib.Dec.{ltb}
 use Rattle.records.specs.{Refusal, BadOperand, Limits, Glyphs.Glyph, Glyphs.rename}
 use Rattle.records.proofs.Renaming as records
+use Rattle.lists.specs.declared.{Reply.Reply}
+use Rattle.lists.specs.State.{account}
+use Rattle.lists.specs.Contract.{Begins}
 use Rattle.lists.specs.Account.{Account, hasOutput, hasPositions, isSpoiled, input, len, idx, outLen, positions, freshAccount, limiting, paying, failing, sized, withInput, withDone, withRest, renamed}
-use Rattle.lists.specs.Results.{Result, refused, accepted, answered, outcome, refuse_when_else_, needing, renamedResult}
+use Rattle.lists.specs.Results.{Result, Outcome, refused, accepted, answered, outcome, refuse_when_else_, needing, renamedResult}
 use Rattle.lists.specs.Cursor.{fresh, enter, leave, allocateLigId, moved, dropping, back, cursorAt, growing, swapped, spoiling, withoutPositions, opened, positioned, clearOutput, clearPositions, nextGlyphs, skipGlyph, sync, paysFor, forward, goesBack, backward, moveTo}
 
 module _ {G H : Type 0} (f : G → H) where
@@ -174,14 +177,25 @@ module _ {G H : Type 0} (f : G → H) where
 
 pub ruleset renaming = (records.renaming, done-rename, passed-rename, rest-rename, state-rename, hasOutput-rename, hasPositions-rename, isSpoiled-rename, input-rename, len-rename, idx-rename, outLen-rename, limiting-rename, paying-rename, failing-rename, sized-rename, moved-rename, dropping-rename, cursorAt-rename, withInput-rename, withDone-rename, withRest-rename, cond-rename, choice-rename, accepted-rename, answered-rename, refuse-rename, needing-rename)
 
--- nor does the account that the first buffer begins with
-pub begun-renamed : {G H : Type 0} (f : G → H) (level wants : ℕ) → renamed f (outcome (freshAccount level 0) (fresh level wants (freshAccount level 0)) .after) ≡ outcome (freshAccount level 0) (fresh level wants (freshAccount level 0)) .after
-unfolding fresh refuse_when_else_ outcome
-begun-renamed f level wants = by (ltb 3 wants)
+-- nor does the first buffer, whichever slices are lent
+begun : (level wants : ℕ) → Account ℕ
+begun level wants = outcome (freshAccount level 0) (fresh level wants (freshAccount level 0)) .after
+
+begun-empty : (f : ℕ → ℕ) (level wants : ℕ) → renamed f (begun level wants) ≡ begun level wants
+unfolding begun fresh refuse_when_else_ outcome
+begun-empty f level wants = by (ltb 3 wants)
   where
     by : (x : Bool) → renamed f (outcome (freshAccount level 0) (cond x (refused BadOperand) (accepted (freshAccount level wants))) .after) ≡ outcome (freshAccount level 0) (cond x (refused BadOperand) (accepted (freshAccount level wants))) .after
     by true = fresh-renamed f level 0
     by false = fresh-renamed f level wants
+
+module _ {level wants : ℕ} {r : Reply} (v : Begins level wants r) where
+  begun-account : (first second : List ℕ) → account (r .buffer) first second ≡ begun level wants
+  unfolding begun
+  begun-account first second = ap (λ (o : Outcome ℕ). o .after) (v .is first second)
+
+  pub begun-renamed : (f : ℕ → ℕ) (first second first′ second′ : List ℕ) → account (r .buffer) first′ second′ ≡ renamed f (account (r .buffer) first second)
+  begun-renamed f first second first′ second′ = begun-account first′ second′ ∙ (sym (begun-empty f level wants) ∙ ap (renamed f) (sym (begun-account first second)))
 
 -- ---- calls
 module _ {G H : Type 0} (f : G → H) (a : Account G) where

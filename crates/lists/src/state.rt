@@ -1,8 +1,6 @@
 // The state by value: its tests, and the states that calls leave.
 ghost use mathlib.Core.Path.{_≡_};
 ghost use mathlib.Core.Bool.{not, cond};
-ghost use Prim.Native.Nat.{_+_, _-_, _≤_};
-ghost use lib.ListN.{length};
 ghost use Rattle.lists.specs.Account.{outputPhase, positionsPhase, spoiledPhase, readLevel};
 ghost use Rattle.lists.specs.Contract.{Begins};
 ghost use Rattle.lists.specs.State.{inOrder, sound, roomFor};

@@ -5,6 +5,7 @@ use native.Mathlib.Omega.{arith}
 use lib.ListN.{length, length-drop, take, drop, getD}
 use lib.Seq.{take-suc, take-length, take-append-seam, getD-take, getD-drop, sets-eq}
 use Rattle.commands.specs.Lines.{Prints}
+use Rattle.commands.proofs.Writes.{printed-length}
 use Rattle.replay.specs.Lines.{Finds, Compared, oneMore}
 use Rattle.replay.specs.declared.Found.{Found}
 use Rattle.replay.specs.declared.Found.the-variants.{Same, Different}
@@ -31,7 +32,7 @@ same-whole line text at i h past fits e =
 pub printed : {line before : List ℕ} {r : ℕ} {after : List ℕ} → Prints line before 0 r after → 81 ≤ length before → take r after ≡ line
 printed {line} {before} {r} {after} p h =
     let wrote = p .room (omega arith) in
-    let next : r ≡ length line = omega (arith, wrote .next) in
+    let next : r ≡ length line = printed-length p h in
     let short : 0 + length line ≤ length before = omega (arith, wrote .next, p .short) in
     rw (wrote .list, next, sets-eq line before 0 short) (take-append-seam line (drop (0 + length line) before))
 
