@@ -8,7 +8,7 @@ use Rattle.edits.specs.Merging.{mergeInput, mergeDone, clustersMerge}
 use Rattle.edits.specs.Deleting.{deleteGlyph}
 use Rattle.edits.specs.Flags.{plainForm, outbufferForm}
 use Rattle.edits.specs.WholeRun.{setMasks, sort}
-use Rattle.edits.specs.Groups.{propagateFlags, settled}
+use Rattle.edits.specs.Groups.{propagateFlags}
 use Rattle.edits.proofs.Executable.{executable}
 
 -- glyph, cluster, mask, var0
@@ -39,17 +39,10 @@ sorts : sort (at 0) (at 3) 0 4294967295 (run (g 1 0 0 2 ∷ g 2 1 0 1 ∷ g 3 2 
 unfolding g holding run at executable
 sorts = refl
 
--- ★9, and each entry of the course book's table: joined bits 0 to 7 under wants 0, 1, 2, 3
+-- ★9
 propagates : propagateFlags (holding Plain 3 0 [] (g 1 5 1 0 ∷ g 2 5 4 0 ∷ [])) ≡ accepted (holding Plain 3 0 [] (g 1 5 1 0 ∷ g 2 5 1 0 ∷ []))
 unfolding g holding executable
 propagates = refl
-
-row : ℕ → List ℕ
-row wants = settled wants 0 ∷ settled wants 1 ∷ settled wants 2 ∷ settled wants 3 ∷ settled wants 4 ∷ settled wants 5 ∷ settled wants 6 ∷ settled wants 7 ∷ []
-
-settles : (row 0 ≡ 0 ∷ 1 ∷ 0 ∷ 1 ∷ 4 ∷ 5 ∷ 4 ∷ 5 ∷ []) × (row 1 ≡ 0 ∷ 1 ∷ 2 ∷ 3 ∷ 4 ∷ 5 ∷ 6 ∷ 7 ∷ []) × (row 2 ≡ 0 ∷ 1 ∷ 0 ∷ 1 ∷ 5 ∷ 1 ∷ 5 ∷ 1 ∷ []) × (row 3 ≡ 0 ∷ 1 ∷ 2 ∷ 3 ∷ 7 ∷ 1 ∷ 7 ∷ 3 ∷ [])
-unfolding row executable
-settles = (refl, refl, refl, refl)
 
 -- traps: the 255 test comes before the clamp; cluster 4,294,967,295 stays out of a range that starts above 0
 far : (plainForm true true 3 (some (at 0)) (some (at 300)) (run (g 1 0 0 0 ∷ g 2 1 0 0 ∷ [])) ≡ accepted (run (g 1 0 0 0 ∷ g 2 1 0 0 ∷ []))) × (plainForm true true 3 (some (at 0)) (some (at 255)) (run (g 1 0 0 0 ∷ g 2 1 0 0 ∷ [])) ≡ accepted (run (g 1 0 0 0 ∷ g 2 1 3 0 ∷ [])))

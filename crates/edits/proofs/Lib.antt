@@ -7,6 +7,7 @@ pub mod Examples
 pub mod Executable
 pub mod FlagCalls
 pub mod FlagLaws
+pub mod FlagTables
 pub mod GivenLaws
 pub mod GraphemeCalls
 pub mod GroupLaws

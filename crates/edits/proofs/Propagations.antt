@@ -1,9 +1,8 @@
--- The flags of neighbours of one cluster: what a group gets, and the loop over the groups.
-use mathlib.Core.{Path._≡_, Path.refl, Path.ap, Path.ap₂, Path.sym, Path._∙_, Bool.true, Bool.false, Bool.cond, Bool.false≢true, List.List, List.[], List._∷_, List.map}
-use Prim.Native.Nat.{ℕ, _+_, _-_, _/_, _%_, _≤_, _<_}
+-- The flags of neighbours of one cluster: the loop over the groups.
+use mathlib.Core.{Path._≡_, Path.refl, Path.ap, Path.ap₂, Path.sym, Path._∙_, Bool.true, Bool.false, Bool.false≢true, List.List, List.[], List._∷_, List.map}
+use Prim.Native.Nat.{ℕ, _+_, _-_, _%_, _≤_, _<_}
 use native.Mathlib.Omega.{arith}
-use borrow.Author.Tests.{eq-eqb, ne-eqb, le-leb, lt-leb}
-use lib.{Dec.leb, Bits.bitAnd, Bits.bitOr, ListN.take, ListN.drop, ListN.length, ListN.getD, Seq.slice}
+use lib.{Bits.bitOr, ListN.take, ListN.drop, ListN.length, ListN.getD, Seq.slice}
 use Rattle.records.specs.{Phase, Plain, Output, Positions, Spoiled, WrongPhase, Done, Glyphs.Glyph, Glyphs.Info, Glyphs.withMask, Glyphs.withPosition, Ranges.infos, Ranges.clusters, Ranges.edit, Ranges.heads, Ranges.is, View.glyphs, View.placements}
 use Rattle.records.proofs.View.{glyphs-same}
 use Rattle.lists.specs.declared.{Buffer.Buffer, Reply.Reply}
@@ -13,37 +12,6 @@ use Rattle.edits.specs.{Acts.Acts, Groups.sizes, Groups.sameCluster, Gro
 use Rattle.records.proofs.Pairs.{mask-alone}
 use Rattle.edits.proofs.{Holding.edit-take, Holding.edit-drop-behind, Holding.slice-take, Places.Apart, Places.paired-edit, WholeInputs.whole-acts, MergeCalls.in-acts, WholeInputs.not-not-whole, GroupLaws.Group, GroupLaws.no-group, GroupLaws.cluster-group, GroupLaws.clusters-same, GroupLaws.seen-words}
 
--- ---- what joined bits become
-abbrev pub tatweeled : ℕ → ℕ
-tatweeled x = cond (leb 4 (cond (is 1 (x % 2)) (x % 4) x)) 7 (cond (is 1 (x % 2)) (x % 4) x)
-
-module _ (x : ℕ) where
-  pub tatweel-odd : x % 2 ≡ 1 → x % 4 ≡ tatweeled x
-  tatweel-odd h = rw (eq-eqb (x % 2) 1 h, lt-leb 4 (x % 4) (omega arith))
-
-  pub tatweel-sets : (x % 2 ≡ 1 → ⊥) → 4 ≤ x → 7 ≡ tatweeled x
-  tatweel-sets n h = rw (ne-eqb (x % 2) 1 n, le-leb 4 x h)
-
-  pub tatweel-leaves : (x % 2 ≡ 1 → ⊥) → x < 4 → x ≡ tatweeled x
-  tatweel-leaves n h = rw (ne-eqb (x % 2) 1 n, lt-leb 4 x h)
-
-module _ (wants x : ℕ) where
-  pub settled-both : {y : ℕ} → wants / 2 % 2 ≡ 1 → wants % 2 ≡ 1 → y ≡ tatweeled x → y ≡ settled wants x
-  unfolding settled
-  settled-both t k e = rw (eq-eqb (wants / 2 % 2) 1 t, eq-eqb (wants % 2) 1 k) e
-
-  pub settled-tatweel : {y : ℕ} → wants / 2 % 2 ≡ 1 → (wants % 2 ≡ 1 → ⊥) → y ≡ tatweeled x → bitAnd 5 y ≡ settled wants x
-  unfolding settled
-  settled-tatweel t k e = rw (eq-eqb (wants / 2 % 2) 1 t, ne-eqb (wants % 2) 1 k) (ap (bitAnd 5) e)
-
-  pub settled-concat : (wants / 2 % 2 ≡ 1 → ⊥) → wants % 2 ≡ 1 → x ≡ settled wants x
-  unfolding settled
-  settled-concat t k = rw (ne-eqb (wants / 2 % 2) 1 t, eq-eqb (wants % 2) 1 k)
-
-  pub settled-none : (wants / 2 % 2 ≡ 1 → ⊥) → (wants % 2 ≡ 1 → ⊥) → bitAnd 5 x ≡ settled wants x
-  unfolding settled
-  settled-none t k = rw (ne-eqb (wants / 2 % 2) 1 t, ne-eqb (wants % 2) 1 k)
-
 -- ---- masks
 abbrev pub maskOf : Info → ℕ
 maskOf i = i .mask
@@ -52,6 +20,10 @@ joined-low : (l : List Info) → joined l ≡ joinedLow (map maskOf l)
 unfolding joined joinedLow
 joined-low [] = refl
 joined-low (i ∷ l) = ap (bitOr (i .mask % 8)) (joined-low l)
+
+pub group-filled : (run run′ : List ℕ) (s e wants : ℕ) {x m : ℕ} → x ≡ joinedLow (slice s e (map maskOf (infos (glyphs run)))) → m ≡ settled wants x → glyphs run′ ≡ edit s e (withMask m) (glyphs run)
+    → glyphs run′ ≡ edit s e (withMask (settled wants (joinedLow (slice s e (map maskOf (infos (glyphs run))))))) (glyphs run)
+group-filled run run′ s e wants ex em eg = eg ∙ rw (em, ex)
 
 mask-apart : (m : ℕ) → Apart (withMask m)
 unfolding Apart withMask withPosition
@@ -98,6 +70,12 @@ module _ {b : Buffer} {run other : List ℕ} (w : WholeInput b run other) where
     spread-group o ee = cluster-group (b .phase) run′ other (w .clean) (v .fits) o ee
 
     module _ {e : ℕ} (g : Group sameCluster (shown (b .phase) run′ other) (b .len .0) s e) where
+      pub group-order : s ≤ e
+      group-order = omega (arith, g .after)
+
+      pub group-fits : e ≤ length (glyphs run′)
+      group-fits = omega (arith, g .inside, v .fits)
+
       masks-seen : slice s e (map maskOf (infos (glyphs run′))) ≡ map maskOf (slice s e (infos (seenRun b run′ other)))
       masks-seen =
           let l : List Info = infos (seenRun b run′ other) in

@@ -8,6 +8,7 @@ pub mod Bounds
 pub mod Marks
 pub mod WholeRun
 pub mod Groups
+pub mod FlagTable
 pub mod Holding
 pub mod Plans
 pub mod Acts

@@ -6,6 +6,7 @@ pub mod bounds;
 pub mod deleting;
 pub mod deleting_inplace;
 pub mod filling;
+mod flag_table;
 pub mod flagging;
 pub mod flags;
 pub mod grouping;

@@ -1,9 +1,17 @@
 -- A loop that goes down and joins the low bits of masks.
-use mathlib.Core.{Path._≡_, Path.ap, Path.ap₂, Path.sym, Path._∙_, List.List, List._∷_}
+use mathlib.Core.{Path._≡_, Path.ap, Path.ap₂, Path.sym, Path._∙_, List.List, List.[], List._∷_}
 use Prim.Native.Nat.{ℕ, suc, _-_, _%_, _≤_, _<_}
 use native.Mathlib.Omega.{arith}
-use lib.{Bits.bitOr, ListN.length, ListN.getD, Seq.slice, Seq.slice-empty, Seq.slice-cons}
+use lib.{Bits.bitOr, Bits.or-lt, ListN.length, ListN.getD, Seq.slice, Seq.slice-empty, Seq.slice-cons}
 use Rattle.lists.specs.Masks.{joinedLow}
+
+joined-lt : (ms : List ℕ) → joinedLow ms < 8
+unfolding joinedLow
+joined-lt [] = omega arith
+joined-lt (m ∷ ms) = or-lt 3 (m % 8) (joinedLow ms) (omega arith) (joined-lt ms)
+
+pub joined-below : {x : ℕ} (ms : List ℕ) → x ≡ joinedLow ms → x < 8
+joined-below ms e = rw e (joined-lt ms)
 
 -- x is what those from i on come to
 pub record Joining (ms : List ℕ) (s e x i : ℕ) : Type 0 where

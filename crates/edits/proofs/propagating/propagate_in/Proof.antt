@@ -1,3 +1,5 @@
+use mathlib.Core.Path.{refl}
+use Rattle.edits.specs.FlagTable.{flagTable}
 use Rattle.edits.proofs.WholeInputs.{whole-input, in-not-whole}
 use Rattle.edits.proofs.Propagations.{propagate-refused, propagate-done}
 use borrow.Author.Needs.{needs}
@@ -11,10 +13,14 @@ refusal-requires : tie.Need-refusal-requires
 refusal-requires c κs = search needs
 
 returns : tie.Need-returns
-returns c = in-not-whole (c .before .before .before .before .before .pre) (c .before .before .not-whole .ensures) (c .before .if1 .taken) (propagate-refused _) (c .refusal .ensures)
+returns c = search (in-not-whole, propagate-refused)
+
+slice-aggregate-propagate-each : tie.Need-slice-aggregate-propagate-each
+slice-aggregate-propagate-each c = search needs
 
 propagate-each-requires : tie.Need-propagate-each-requires
-propagate-each-requires c κs = whole-input (c .before .before .before .before .before .before .pre) (c .before .before .before .not-whole .ensures) (c .before .before .if1 .left)
+unfolding flagTable
+propagate-each-requires c κs = (refl, search whole-input)
 
 accepted-requires : tie.Need-accepted-requires
 accepted-requires c κs = search needs
@@ -26,7 +32,7 @@ same-length-2 : tie.Need-same-length-2
 same-length-2 c = search needs
 
 returns-2 : tie.Need-returns-2
-returns-2 c = propagate-done (whole-input (c .before .before .before .before .before .before .before .before .before .before .pre) (c .before .before .before .before .before .before .before .not-whole .ensures) (c .before .before .before .before .before .before .if1 .left)) (c .before .before .before .propagate-each .ensures) (c .accepted .ensures)
+returns-2 c = search (propagate-done, whole-input)
 
 pub propagate-in-spec : {M : Type 1} → statement M
 propagate-in-spec =
@@ -35,6 +41,7 @@ propagate-in-spec =
     not-whole-requires
     refusal-requires
     returns
+    slice-aggregate-propagate-each
     propagate-each-requires
     accepted-requires
     same-length
