@@ -10,7 +10,7 @@ use Rattle.lists.specs.declared.{Buffer.Buffer, Reply.Reply}
 use Rattle.lists.specs.{Account.readLevel, Account.Account, Account.input, Account.withInput, Account.withDone, Account.paying, Account.limiting, Contract.MeetsIn, Results.refused, Results.accepted, Results.refuse_when_else_, State.shown, State.goneOf, State.accountOf, State.Held, States.reply, States.withLimitsOf}
 use Rattle.lists.proofs.{Accounts.level-of, Calls.in-refused, Infos.words-drop, Infos.words-edit}
 use Rattle.edits.specs.{Acts.Acts, Acts.Mergeful, Flags.interior, Flags.sought, Flags.flagInterior, Groups.sizes, Groups.continues, Groups.mergedEach, Groups.formClusters, Merging.merge, Merging.merged, Merging.mergeStart, Merging.mergeEnd, Merging.graphemesMerge, WholeRun.notWhole, Wholes.WholeInput}
-use Rattle.edits.proofs.{Chaining.acts-as, Chaining.acts-then, MergeCalls.in-acts, WholeInputs.whole-gone, WholeInputs.whole-lengths, WholeInputs.account-whole, WholeInputs.not-not-whole, GroupLaws.Group, GroupLaws.no-group, GroupLaws.grapheme-group, GroupLaws.graphemes-same}
+use Rattle.edits.proofs.{Chaining.acts-as, Chaining.acts-then, MergeCalls.in-acts, MergeLaws.merge-order, WholeInputs.whole-gone, WholeInputs.whole-lengths, WholeInputs.account-whole, WholeInputs.not-not-whole, GroupLaws.Group, GroupLaws.no-group, GroupLaws.grapheme-group, GroupLaws.graphemes-same}
 
 -- ---- the changes that leave a key alone
 module _ (slot mask : ℕ) where
@@ -35,18 +35,6 @@ module _ (slot mask : ℕ) where
       pick false = refl
 
 -- ---- the edits
-merge-order : (cursor s e : ℕ) (cs : List ℕ) → s ≤ e → mergeStart cursor s e cs ≤ mergeEnd s e cs
-unfolding mergeStart mergeEnd
-merge-order cursor s e cs o =
-    let r : List ℕ = slice s e cs in
-    pick (is (least r) (first r)) (is (least r) (last r)) (tails (is (first r)) (slice cursor s cs)) (heads (is (last r)) (drop e cs))
-  where
-    pick : (b c : Bool) (t h : ℕ) → cond b s (s - t) ≤ cond c e (e + h)
-    pick true true t h = o
-    pick true false t h = omega arith
-    pick false true t h = omega arith
-    pick false false t h = omega arith
-
 module _ {G : Type 0} (slot mask : ℕ) where
   abbrev keys : List (Glyph G) → List ℕ
   keys l = map (key slot mask) (infos l)

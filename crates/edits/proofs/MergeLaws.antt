@@ -63,6 +63,9 @@ end-least s e cs =
     pick true t = omega arith
     pick false t = omega arith
 
+pub merge-order : (idx s e : ℕ) (cs : List ℕ) → s ≤ e → mergeStart idx s e cs ≤ mergeEnd s e cs
+merge-order idx s e cs o = omega (arith, o, start-most idx s e cs, end-least s e cs)
+
 pub end-most : (s e : ℕ) (cs : List ℕ) → e ≤ length cs → mergeEnd s e cs ≤ length cs
 unfolding mergeEnd
 end-most s e cs o =

@@ -3,12 +3,13 @@ use mathlib.Core.{Path._≡_, Path.refl, Path.sym, Path.ap, Path._∙_, Bool.Boo
 use Prim.Native.Nat.{ℕ, _+_, _-_, _≤_, _<_, zero-le}
 use native.Mathlib.Omega.{arith}
 use lib.{Dec.ltb, ListN.length, ListN.take, ListN.drop, ListN.getD, ListN.set, Seq.slice}
-use Rattle.records.specs.{Phase, Position, Counters.costs, Glyphs.Glyph, Glyphs.Info, Glyphs.blank, Glyphs.change, Glyphs.withPosition, Glyphs.zeroPosition, Glyphs.setCluster, Ranges.clusters, Ranges.infos, Ranges.edit, Ranges.is, Ranges.isnt, Ranges.least, Ranges.first, Ranges.last, Ranges.heads, Ranges.tails, View.paired, View.zeroGlyph}
+use Rattle.records.specs.{Phase, Position, Counters.costs, Glyphs.Glyph, Glyphs.Info, Glyphs.blank, Glyphs.change, Glyphs.withPosition, Glyphs.zeroPosition, Glyphs.setCluster, Ranges.clusters, Ranges.infos, Ranges.edit, Ranges.is, Ranges.isnt, Ranges.least, Ranges.first, Ranges.last, Ranges.tails, View.paired, View.zeroGlyph}
 use Rattle.records.proofs.{View.length-paired, View.length-clusters, Pairs.paired-take, Pairs.paired-drop, Pairs.paired-set, Pairs.paired-at}
 use Rattle.lists.specs.{Account.Account, Account.State, Account.inPhase, Account.withGone, Account.withLimits, Account.input, Account.limiting, Account.paying, Account.withInput, Account.withDone, Cursor.dropping}
 use Rattle.edits.specs.{Deleting.current, Deleting.survives, Deleting.inherited, Deleting.mergedForward, Deleting.deleted, Flags.interior, Flags.sought, Flags.flagInterior, Merging.mergeEnd, Merging.mergeStart, Merging.mergeTail, Merging.merged, Merging.merge, Merging.clustersMerge, Underway.pairing}
 use Rattle.records.proofs.Pairs.{cluster-alone, mask-alone}
 use Rattle.edits.proofs.Holding.{same-account}
+use Rattle.edits.proofs.MergeLaws.{merge-order}
 use Rattle.edits.proofs.Places.{Apart, set-apart, clusters-paired, paired-edit, paired-interior}
 
 module _ (t : Bool) (l : List (Glyph ℕ)) (ps : List Position) where
@@ -85,18 +86,6 @@ pub pairing-slice : (t : Bool) (l : List (Glyph ℕ)) (ps : List Position) (i j 
 pairing-slice t l ps i j = ap (drop i) (pairing-take t l ps j) ∙ pairing-drop t (take j l) (take j ps) i
 
 -- ---- ranges of a merge
-start-end : (s e : ℕ) (cs : List ℕ) → s ≤ e → mergeStart 0 s e cs ≤ mergeEnd s e cs
-unfolding mergeStart mergeEnd
-start-end s e cs o =
-    let r : List ℕ = slice s e cs in
-    pick (is (least r) (first r)) (is (least r) (last r)) (tails (is (first r)) (slice 0 s cs)) (heads (is (last r)) (drop e cs))
-  where
-    pick : (x y : Bool) (n m : ℕ) → cond x s (s - n) ≤ cond y e (e + m)
-    pick true true n m = o
-    pick true false n m = omega arith
-    pick false true n m = omega arith
-    pick false false n m = omega arith
-
 tail-end : (s e : ℕ) (cs ds : List ℕ) → mergeTail 0 s e cs ds ≤ length ds
 unfolding mergeTail
 tail-end s e cs ds =
@@ -144,7 +133,7 @@ module _ (t : Bool) (p : Phase) (ds rs : List Position) (g : ℕ) where
         (same-account {k = withLimits (costs (e - s) (k .limits)) (inPhase p (withGone g k))}
         (pairing-edit t d ds h a (mergeTail 0 s e cs (clusters d)) (length d) (omega (arith, tail-end s e cs (clusters d), length-clusters d)))
         refl
-        (pairing-edit t r rs h a (mergeStart 0 s e cs) (mergeEnd s e cs) (start-end s e cs o))
+        (pairing-edit t r rs h a (mergeStart 0 s e cs) (mergeEnd s e cs) (merge-order 0 s e cs o))
         refl)
 
     flagged-beside : (bits s e : ℕ) → s ≤ e → flagInterior bits s e (beside t p g ds rs (lone d r k)) ≡ beside t p g ds rs (flagInterior bits s e (lone d r k))

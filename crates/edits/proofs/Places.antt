@@ -1,14 +1,14 @@
 -- Phase positions: the glyphs of one slice with the positions of the other. An edit that keeps positions is the same edit of the pairs.
-use mathlib.Core.{Path._≡_, Path.refl, Path.ap, Path._∙_, Bool.Bool, Bool.true, Bool.false, Bool.cond, Bool._&&_, Bool._||_, List.List, List.[], List._∷_}
+use mathlib.Core.{Path._≡_, Path.refl, Path.sym, Path.ap, Path._∙_, Bool.Bool, Bool.true, Bool.false, Bool.false≢true, Bool.cond, Bool._&&_, Bool._||_, List.List, List.[], List._∷_}
 use Prim.Native.Nat.{ℕ, zero, suc, _+_, _-_, _*_, _/_, _%_, _≤_, zero-le}
 use native.Mathlib.Nat.{le-of-suc-le-suc, not-suc-le-zero}
 use native.Mathlib.Omega.{arith}
 use lib.Dec.{eqb}
 use lib.Seq.{slice}
-use Rattle.records.specs.{Position, Glyphs.Glyph, Glyphs.Info, Glyphs.change, Glyphs.withPosition, Glyphs.withMask, Glyphs.withCluster, Glyphs.setCluster, Glyphs.flagged, Glyphs.flaggedUnless, Ranges.edit, Ranges.is, Ranges.isnt, Ranges.first, Ranges.last, Ranges.heads, Ranges.tails, Ranges.clusters, View.paired}
+use Rattle.records.specs.{Phase, Plain, Output, Positions, Spoiled, Position, Glyphs.Glyph, Glyphs.Info, Glyphs.change, Glyphs.withPosition, Glyphs.withMask, Glyphs.withCluster, Glyphs.setCluster, Glyphs.flagged, Glyphs.flaggedUnless, Ranges.edit, Ranges.is, Ranges.isnt, Ranges.first, Ranges.last, Ranges.heads, Ranges.tails, Ranges.clusters, View.glyphs, View.placements, View.paired}
 use Rattle.records.proofs.View.{length-paired}
 use Rattle.edits.specs.declared.{Merge.Merge}
-use Rattle.lists.specs.Account.{State}
+use Rattle.lists.specs.{Account.State, Account.spoiledPhase, State.shown}
 use Rattle.edits.specs.Flags.{interior, sought, flagInterior, flagAll}
 use Rattle.edits.specs.Holding.{holds, cut}
 use Rattle.edits.specs.Plans.{InputRange, Mergeable, InputFrom, MergedWithin, mergePlan, tailStart, mergedRun, mergedTail}
@@ -56,6 +56,14 @@ module _ (h : Info → Info) (a : Apart h) where
   paired-edit (suc i) (suc j) [] ps o = refl
   paired-edit (suc i) (suc j) (g ∷ l) [] o = ap {B = List (Glyph ℕ)} (λ r. g ∷ r) (paired-edit i j l [] (le-of-suc-le-suc o))
   paired-edit (suc i) (suc j) (g ∷ l) (p ∷ ps) o = ap {B = List (Glyph ℕ)} (λ r. change (withPosition p) g ∷ r) (paired-edit i j l ps (le-of-suc-le-suc o))
+
+  -- an edit of the slice is one of what is shown
+  pub shown-edit : (i j : ℕ) (p : Phase) (run run′ other : List ℕ) → i ≤ j → spoiledPhase p ≡ false → glyphs run′ ≡ edit i j h (glyphs run) → shown p run′ other ≡ edit i j h (shown p run other)
+  unfolding shown
+  shown-edit i j Plain run run′ other o c e = e
+  shown-edit i j Output run run′ other o c e = e
+  shown-edit i j Positions run run′ other o c e = rw e (paired-edit i j (glyphs run) (placements other) o)
+  shown-edit i j Spoiled run run′ other o c e = absurd (false≢true (sym c))
 
 pub paired-interior : (level m bits i j : ℕ) (l : List (Glyph ℕ)) (ps : List Position) → i ≤ j → paired (interior level m bits i j l) ps ≡ interior level m bits i j (paired l ps)
 unfolding interior

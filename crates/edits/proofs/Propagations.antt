@@ -1,16 +1,16 @@
 -- The flags of neighbours of one cluster: the loop over the groups.
-use mathlib.Core.{Path._≡_, Path.refl, Path.ap, Path.ap₂, Path.sym, Path._∙_, Bool.true, Bool.false, Bool.false≢true, List.List, List.[], List._∷_, List.map}
+use mathlib.Core.{Path._≡_, Path.refl, Path.ap, Path.ap₂, Path.sym, Path._∙_, Bool.true, List.List, List.[], List._∷_, List.map}
 use Prim.Native.Nat.{ℕ, _+_, _-_, _%_, _≤_, _<_}
 use native.Mathlib.Omega.{arith}
 use lib.{Bits.bitOr, ListN.take, ListN.drop, ListN.length, ListN.getD, Seq.slice}
-use Rattle.records.specs.{Phase, Plain, Output, Positions, Spoiled, WrongPhase, Done, Glyphs.Glyph, Glyphs.Info, Glyphs.withMask, Glyphs.withPosition, Ranges.infos, Ranges.clusters, Ranges.edit, Ranges.heads, Ranges.is, View.glyphs, View.placements}
+use Rattle.records.specs.{WrongPhase, Done, Glyphs.Glyph, Glyphs.Info, Glyphs.withMask, Glyphs.withPosition, Ranges.infos, Ranges.clusters, Ranges.edit, Ranges.heads, Ranges.is, View.glyphs}
 use Rattle.records.proofs.View.{glyphs-same}
 use Rattle.lists.specs.declared.{Buffer.Buffer, Reply.Reply}
-use Rattle.lists.specs.{Account.Account, Account.withRest, Account.spoiledPhase, Contract.MeetsIn, Masks.joinedLow, Results.refused, Results.accepted, Results.refuse_when_else_, State.shown, State.accountOf, States.reply}
+use Rattle.lists.specs.{Account.Account, Account.withRest, Contract.MeetsIn, Masks.joinedLow, Results.refused, Results.accepted, Results.refuse_when_else_, State.shown, State.accountOf, States.reply}
 use Rattle.lists.proofs.{Accounts.wants-of, Infos.map-take, Infos.map-drop, Infos.words-edit}
 use Rattle.edits.specs.{Acts.Acts, Groups.sizes, Groups.sameCluster, Groups.joined, Groups.settled, Groups.propagated, Groups.propagateFlags, WholeRun.notWhole, Wholes.WholeInput}
 use Rattle.records.proofs.Pairs.{mask-alone}
-use Rattle.edits.proofs.{Holding.edit-take, Holding.edit-drop-behind, Holding.slice-take, Places.Apart, Places.paired-edit, WholeInputs.whole-acts, MergeCalls.in-acts, WholeInputs.not-not-whole, GroupLaws.Group, GroupLaws.no-group, GroupLaws.cluster-group, GroupLaws.clusters-same, GroupLaws.seen-words}
+use Rattle.edits.proofs.{Holding.edit-take, Holding.edit-drop-behind, Holding.slice-take, Places.Apart, Places.shown-edit, WholeInputs.whole-acts, MergeCalls.in-acts, WholeInputs.not-not-whole, GroupLaws.Group, GroupLaws.no-group, GroupLaws.cluster-group, GroupLaws.clusters-same, GroupLaws.seen-words}
 
 -- ---- masks
 abbrev pub maskOf : Info → ℕ
@@ -32,14 +32,6 @@ mask-apart m p i = refl
 mask-cluster : (m : ℕ) (i : Info) → (withMask m i) .cluster ≡ i .cluster
 unfolding withMask
 mask-cluster m i = refl
-
--- ---- an edit of the slice is one of what is shown
-pub shown-edit : (h : Info → Info) → Apart h → (i j : ℕ) (p : Phase) (run run′ other : List ℕ) → i ≤ j → spoiledPhase p ≡ false → glyphs run′ ≡ edit i j h (glyphs run) → shown p run′ other ≡ edit i j h (shown p run other)
-unfolding shown
-shown-edit h a i j Plain run run′ other o c e = e
-shown-edit h a i j Output run run′ other o c e = e
-shown-edit h a i j Positions run run′ other o c e = rw e (paired-edit h a i j (glyphs run) (placements other) o)
-shown-edit h a i j Spoiled run run′ other o c e = absurd (false≢true (sym c))
 
 -- ---- the loop: groups before s have their masks, those from s on are still to get them
 abbrev seenRun : Buffer → (run other : List ℕ) → List (Glyph ℕ)

@@ -16,7 +16,7 @@ use Rattle.edits.specs.{WholeRun.notWhole, WholeRun.masked, WholeRun.set
 use Rattle.edits.proofs.Holding.{edit-take, edit-drop-behind}
 use Rattle.edits.proofs.MergeCalls.{acts-paid, in-acts}
 use Rattle.edits.proofs.Pairs.{paired-numbered}
-use Rattle.edits.proofs.Places.{Apart, paired-edit}
+use Rattle.edits.proofs.Places.{Apart, shown-edit}
 use Rattle.edits.proofs.WholeInputs.{wholeTest, not-not-whole, in-not-whole, whole-is, whole-acts}
 
 -- ---- which glyphs are masked
@@ -72,18 +72,11 @@ unfolding edit
 edit-all h n l o = rw (take-all n l o, drop-of-length-le l o) (append-nil (map (change h) l))
 
 module _ (h : Info → Info) (a : Apart h) (n : ℕ) (run run′ other : List ℕ) (e : glyphs run′ ≡ edit 0 n h (glyphs run)) where
-  shown-edited : (p : Phase) → spoiledPhase p ≡ false → shown p run′ other ≡ edit 0 n h (shown p run other)
-  unfolding shown
-  shown-edited Plain k = e
-  shown-edited Output k = e
-  shown-edited Positions k = ap (λ (l : List (Glyph ℕ)). paired l (placements other)) e ∙ paired-edit h a 0 n (glyphs run) (placements other) zero-le
-  shown-edited Spoiled k = absurd (false≢true (sym k))
-
   shown-all : (p : Phase) → spoiledPhase p ≡ false → take n (shown p run′ other) ≡ map (change h) (take n (shown p run other))
   shown-all p k =
       let l : List (Glyph ℕ) = shown p run other in
       let short : length (take n l) ≤ n = rw (length-take n l) (omega arith) in
-      ap (take n) (shown-edited p k) ∙ (edit-take h 0 n n l zero-le (le-refl n) ∙ edit-all h n (take n l) short)
+      ap (take n) (shown-edit h a 0 n p run run′ other zero-le k e) ∙ (edit-take h 0 n n l zero-le (le-refl n) ∙ edit-all h n (take n l) short)
 
 -- what the loops ask for
 module _ {b : Buffer} {run other : List ℕ} (w : WholeInput b run other) where
