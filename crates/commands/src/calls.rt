@@ -131,7 +131,13 @@ fn unsafe_to_concat_from_outbuffer(
 }
 
 // The call of an order that was read from a string. 26 is the last command byte.
-pub fn call(b: Buffer, first: &mut [u32], second: &mut [u32], script: &[u8], o: Order) -> Reply
+pub(crate) fn call(
+    b: Buffer,
+    first: &mut [u32],
+    second: &mut [u32],
+    script: &[u8],
+    o: Order,
+) -> Reply
     requires { ⌜ (o .byte < 39) × (o .byte ≡ 14 → o .numbers + 4 * o .b ≤ length (now script)) ⌝ }
     ensures { λ r. ⌜ Meets (λ capacity a. perform 0 capacity (wordedOf (now (script .entry)) o .call) (wordedOf (now (script .entry)) o .glyphs) a) b (now (first .entry)) (now (second .entry)) r (now (first .exit)) (now (second .exit)) ⌝ }
 {

@@ -5,7 +5,7 @@ ghost use Prim.Native.Nat.{_+_, _≤_, _<_};
 ghost use lib.ListN.{length};
 ghost use Rattle.commands.specs.Lines.{digitOf, decimal, signed, hexDigit, hex, Wrote};
 
-pub fn put(out: &mut [u8], at: usize, b: u8) -> usize
+pub(crate) fn put(out: &mut [u8], at: usize, b: u8) -> usize
     requires { ⌜ at < length (now out) ⌝ }
     ensures { λ r. ⌜ Wrote (b ∷ []) (now (out .entry)) at r (now (out .exit)) ⌝ }
 {
@@ -20,7 +20,7 @@ fn digit(n: usize) -> u8
     48 + (n % 10) as u8
 }
 
-pub fn put_decimal(out: &mut [u8], at: usize, n: usize) -> usize
+pub(crate) fn put_decimal(out: &mut [u8], at: usize, n: usize) -> usize
     requires { ⌜ at + length (decimal n) ≤ length (now out) ⌝ }
     ensures { λ r. ⌜ Wrote (decimal n) (now (out .entry)) at r (now (out .exit)) ⌝ }
 {
@@ -32,7 +32,7 @@ pub fn put_decimal(out: &mut [u8], at: usize, n: usize) -> usize
 }
 
 // A word that stands for a signed number.
-pub fn put_signed(out: &mut [u8], at: usize, w: u32) -> usize
+pub(crate) fn put_signed(out: &mut [u8], at: usize, w: u32) -> usize
     requires { ⌜ at + 11 ≤ length (now out) ⌝ }
     ensures { λ r. ⌜ Wrote (signed w) (now (out .entry)) at r (now (out .exit)) ⌝ }
     ensures { λ r. ⌜ r ≤ at + 11 ⌝ }
@@ -53,7 +53,7 @@ fn hex_digit(n: u8) -> u8
 }
 
 // A byte in two hexadecimal digits.
-pub fn put_hex(out: &mut [u8], at: usize, b: u8) -> usize
+pub(crate) fn put_hex(out: &mut [u8], at: usize, b: u8) -> usize
     requires { ⌜ at + 2 ≤ length (now out) ⌝ }
     ensures { λ r. ⌜ Wrote (hex b) (now (out .entry)) at r (now (out .exit)) ⌝ }
 {

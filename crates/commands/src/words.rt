@@ -6,7 +6,7 @@ ghost use lib.ListN.{length};
 ghost use Rattle.commands.specs.Lines.{decimal, signed, Wrote};
 use super::digits;
 
-pub fn put_count(out: &mut [u8], at: usize, n: usize) -> usize
+pub(crate) fn put_count(out: &mut [u8], at: usize, n: usize) -> usize
     requires { ⌜ at + 21 ≤ length (now out) ⌝ }
     ensures { λ r. ⌜ Wrote (32 ∷ decimal n) (now (out .entry)) at r (now (out .exit)) ⌝ }
     ensures { λ r. ⌜ r ≤ at + 21 ⌝ }
@@ -15,7 +15,7 @@ pub fn put_count(out: &mut [u8], at: usize, n: usize) -> usize
     digits::put_decimal(out, k, n)
 }
 
-pub fn put_word(out: &mut [u8], at: usize, w: u32) -> usize
+pub(crate) fn put_word(out: &mut [u8], at: usize, w: u32) -> usize
     requires { ⌜ at + 11 ≤ length (now out) ⌝ }
     ensures { λ r. ⌜ Wrote (32 ∷ decimal w) (now (out .entry)) at r (now (out .exit)) ⌝ }
     ensures { λ r. ⌜ r ≤ at + 11 ⌝ }
@@ -25,7 +25,7 @@ pub fn put_word(out: &mut [u8], at: usize, w: u32) -> usize
 }
 
 // A word that stands for a signed number.
-pub fn put_signed_word(out: &mut [u8], at: usize, w: u32) -> usize
+pub(crate) fn put_signed_word(out: &mut [u8], at: usize, w: u32) -> usize
     requires { ⌜ at + 12 ≤ length (now out) ⌝ }
     ensures { λ r. ⌜ Wrote (32 ∷ signed w) (now (out .entry)) at r (now (out .exit)) ⌝ }
     ensures { λ r. ⌜ r ≤ at + 12 ⌝ }
@@ -35,7 +35,7 @@ pub fn put_signed_word(out: &mut [u8], at: usize, w: u32) -> usize
 }
 
 // Three bytes, as ` ok`.
-pub fn put_three(out: &mut [u8], at: usize, a: u8, b: u8, c: u8) -> usize
+pub(crate) fn put_three(out: &mut [u8], at: usize, a: u8, b: u8, c: u8) -> usize
     requires { ⌜ at + 3 ≤ length (now out) ⌝ }
     ensures { λ r. ⌜ Wrote (a ∷ b ∷ c ∷ []) (now (out .entry)) at r (now (out .exit)) ⌝ }
 {
@@ -45,7 +45,7 @@ pub fn put_three(out: &mut [u8], at: usize, a: u8, b: u8, c: u8) -> usize
 }
 
 // A truth, as 1 or 0.
-pub fn put_truth(out: &mut [u8], at: usize, t: bool) -> usize
+pub(crate) fn put_truth(out: &mut [u8], at: usize, t: bool) -> usize
     requires { ⌜ at + 2 ≤ length (now out) ⌝ }
     ensures { λ r. ⌜ Wrote (32 ∷ decimal (cond t 1 0)) (now (out .entry)) at r (now (out .exit)) ⌝ }
     ensures { λ r. ⌜ r ≤ at + 2 ⌝ }

@@ -81,7 +81,7 @@ fn drop_one(b: Buffer) -> Buffer
 }
 
 // The glyph at the cursor goes, and its cluster goes to a neighbour.
-pub fn delete_one(b: Buffer, run: &mut [u32], other: &mut [u32]) -> Buffer
+pub(crate) fn delete_one(b: Buffer, run: &mut [u32], other: &mut [u32]) -> Buffer
     requires { ⌜ Deletable b (now run) (now other) ⌝ }
     ensures { λ r. ⌜ (Acts (λ a. deleted a) b (now (run .entry)) (now (other .entry)) r (now (run .exit)) (now (other .exit))) × (r ≡ atPlaces (b .idx .0 + 1) (b .len .0) (b .«out_len» .0) (withLimitsOf (r .limits) b)) × (b .«have_separate_output» ≡ false → now (other .exit) ≡ now (other .entry)) ⌝ }
 {

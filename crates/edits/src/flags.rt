@@ -30,7 +30,7 @@ fn marks_all(level: u32, first: u32, last: u32, cluster: u32) -> bool
 }
 
 // The interior form of a flag over a range, for a cluster that was sought.
-pub fn mark_interior(ws: &mut [u32], level: u32, cluster: u32, bits: u32, s: usize, e: usize)
+pub(crate) fn mark_interior(ws: &mut [u32], level: u32, cluster: u32, bits: u32, s: usize, e: usize)
     requires { ⌜ (s < e) × (e ≤ length (glyphs (now ws))) ⌝ }
     ensures { λ r. ⌜ glyphs (now (ws .exit)) ≡ interior (readLevel level) cluster bits s e (glyphs (now (ws .entry))) ⌝ }
 {
@@ -56,7 +56,7 @@ pub fn lesser(a: u32, b: u32) -> u32
 }
 
 // The cluster that a flag form seeks in a range.
-pub fn sought_cluster(ws: &[u32], level: u32, s: usize, e: usize) -> u32
+pub(crate) fn sought_cluster(ws: &[u32], level: u32, s: usize, e: usize) -> u32
     requires { ⌜ (s < e) × (e ≤ length (glyphs (now ws))) ⌝ }
     ensures { λ r. ⌜ r ≡ sought (readLevel level) (slice s e (clusters (glyphs (now (ws .entry))))) ⌝ }
 {
@@ -68,7 +68,7 @@ pub fn sought_cluster(ws: &[u32], level: u32, s: usize, e: usize) -> u32
 }
 
 // The interior form of a flag over a range, for the cluster that it seeks there.
-pub fn flag_range(ws: &mut [u32], level: u32, bits: u32, s: usize, e: usize)
+pub(crate) fn flag_range(ws: &mut [u32], level: u32, bits: u32, s: usize, e: usize)
     requires { ⌜ (s < e) × (e ≤ length (glyphs (now ws))) ⌝ }
     ensures { λ r. ⌜ glyphs (now (ws .exit)) ≡ interior (readLevel level) (sought (readLevel level) (slice s e (clusters (glyphs (now (ws .entry)))))) bits s e (glyphs (now (ws .entry))) ⌝ }
 {

@@ -15,7 +15,7 @@ use lists::state;
 use records::Refusal;
 
 // Each grapheme is merged, from the left.
-pub fn merge_each(
+pub(crate) fn merge_each(
     b: Buffer,
     run: &mut [u32],
     other: &mut [u32],

@@ -11,7 +11,7 @@ ghost use Rattle.edits.specs.Marks.{flaggedRun, soughtOut};
 use super::flags;
 
 // A plain form on the run.
-pub fn flag_run(ws: &mut [u32], interiorly: bool, level: u32, bits: u32, s: usize, e: usize)
+pub(crate) fn flag_run(ws: &mut [u32], interiorly: bool, level: u32, bits: u32, s: usize, e: usize)
     requires { ⌜ (s ≤ e) × (e ≤ length (glyphs (now ws))) ⌝ }
     ensures { λ r. ⌜ glyphs (now (ws .exit)) ≡ flaggedRun interiorly (readLevel level) bits s e (glyphs (now (ws .entry))) ⌝ }
 {
@@ -45,7 +45,7 @@ fn mark_any(ws: &mut [u32], level: u32, cluster: u32, bits: u32, s: usize, e: us
 }
 
 // The interior form from place s of the output on, up to place e of the run.
-pub fn mark_apart(
+pub(crate) fn mark_apart(
     run: &mut [u32],
     out: &mut [u32],
     level: u32,
@@ -67,7 +67,7 @@ pub fn mark_apart(
 }
 
 // The same with the output in the run.
-pub fn mark_within(
+pub(crate) fn mark_within(
     run: &mut [u32],
     level: u32,
     bits: u32,

@@ -48,7 +48,7 @@ fn merge_lists(b: Buffer, run: &mut [u32], other: &mut [u32], s: usize, e: usize
 }
 
 // A merge of the places s to e of the run, or the flags that stand for it.
-pub fn merge_at(
+pub(crate) fn merge_at(
     b: Buffer,
     run: &mut [u32],
     other: &mut [u32],
@@ -90,7 +90,7 @@ pub fn graphemes_merge(level: u32) -> bool
 }
 
 // The merge of clusters that another call makes on its way.
-pub fn merge_clusters_at(
+pub(crate) fn merge_clusters_at(
     b: Buffer,
     run: &mut [u32],
     other: &mut [u32],
@@ -209,7 +209,7 @@ fn merge_out_lists(b: Buffer, run: &mut [u32], other: &mut [u32], s: usize, e: u
 }
 
 // A merge of the places s to e of the output.
-pub fn merge_out_at(
+pub(crate) fn merge_out_at(
     b: Buffer,
     run: &mut [u32],
     other: &mut [u32],

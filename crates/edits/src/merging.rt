@@ -74,7 +74,7 @@ fn tail_start(ws: &[u32], out_len: usize, tail: bool, leader: u32) -> usize
 }
 
 // A merge where the output is held apart.
-pub fn merge_apart(
+pub(crate) fn merge_apart(
     run: &mut [u32],
     out: &mut [u32],
     idx: usize,
@@ -95,7 +95,14 @@ pub fn merge_apart(
 }
 
 // A merge where the output is held in the run itself, or where there is none.
-pub fn merge_within(run: &mut [u32], idx: usize, len: usize, out_len: usize, s: usize, e: usize)
+pub(crate) fn merge_within(
+    run: &mut [u32],
+    idx: usize,
+    len: usize,
+    out_len: usize,
+    s: usize,
+    e: usize,
+)
     requires { ⌜ Mergeable (glyphs (now run)) (glyphs (now run)) len «out_len» s e ⌝ }
     ensures { λ r. ⌜ (glyphs (now (run .exit)) ≡ mergedRun (mergePlan idx s e (cut len (glyphs (now (run .entry))))) (mergedTail (mergePlan idx s e (cut len (glyphs (now (run .entry))))) «out_len» (glyphs (now (run .entry)))))
         × ((gone : ℕ) → InputFrom gone idx len s → «out_len» ≤ gone → MergedWithin gone idx len «out_len» s e (glyphs (now (run .entry))) (glyphs (now (run .exit)))) ⌝ }
@@ -139,7 +146,7 @@ fn head_end(run: &[u32], idx: usize, len: usize, head: bool, closer: u32) -> usi
 }
 
 // A merge in the output, which is held apart.
-pub fn merge_out_apart(
+pub(crate) fn merge_out_apart(
     run: &mut [u32],
     out: &mut [u32],
     idx: usize,
@@ -160,7 +167,14 @@ pub fn merge_out_apart(
 }
 
 // A merge in the output, which is held in the run itself.
-pub fn merge_out_within(run: &mut [u32], idx: usize, len: usize, out_len: usize, s: usize, e: usize)
+pub(crate) fn merge_out_within(
+    run: &mut [u32],
+    idx: usize,
+    len: usize,
+    out_len: usize,
+    s: usize,
+    e: usize,
+)
     requires { ⌜ OutMergeable (glyphs (now run)) (glyphs (now run)) idx len «out_len» s e × («out_len» ≤ idx) ⌝ }
     ensures { λ r. ⌜ (glyphs (now (run .exit)) ≡ mergedOutput (outPlan s e (cut «out_len» (glyphs (now (run .entry))))) (mergedHead (outPlan s e (cut «out_len» (glyphs (now (run .entry))))) idx len (glyphs (now (run .entry)))))
         × MergedOutWithin idx len «out_len» s e (glyphs (now (run .entry))) (glyphs (now (run .exit))) ⌝ }

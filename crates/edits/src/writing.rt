@@ -43,7 +43,7 @@ fn put_copies(ws: &mut [u32], at: usize, g: Glyph, numbers: &[u32], bytes: &[u8]
 }
 
 // The output moves to the other slice where it would overtake the cursor.
-pub fn make_room_for(
+pub(crate) fn make_room_for(
     b: Buffer,
     run: &[u32],
     other: &mut [u32],
@@ -65,7 +65,7 @@ pub fn make_room_for(
 }
 
 // Copies of g under the first num_out numbers go behind the output, in place of num_in glyphs of the input.
-pub fn write_copies(
+pub(crate) fn write_copies(
     b: Buffer,
     run: &mut [u32],
     other: &mut [u32],
@@ -160,7 +160,7 @@ pub fn output_info(b: Buffer, first: &mut [u32], second: &mut [u32], g: Glyph) -
 }
 
 // The last glyph of the output, in whichever slice it lies.
-pub fn last_done(run: &[u32], other: &[u32], separate: bool, out_len: usize) -> Glyph
+pub(crate) fn last_done(run: &[u32], other: &[u32], separate: bool, out_len: usize) -> Glyph
     requires { ⌜ (1 ≤ «out_len») × («out_len» ≤ length (glyphs (now run))) × («out_len» ≤ length (glyphs (now other))) ⌝ }
     ensures { λ r. ⌜ seen r ≡ getD (cond separate (glyphs (now (other .entry))) (glyphs (now (run .entry)))) («out_len» - 1) zeroGlyph ⌝ }
 {

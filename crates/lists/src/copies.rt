@@ -45,7 +45,7 @@ fn copy_up(ws: &mut [u32], from: usize, to: usize, n: usize)
 }
 
 // Within one slice, whether the ranges overlap or not.
-pub fn copy_within(ws: &mut [u32], from: usize, to: usize, n: usize)
+pub(crate) fn copy_within(ws: &mut [u32], from: usize, to: usize, n: usize)
     requires { ⌜ (from + n ≤ length (glyphs (now ws))) × (to + n ≤ length (glyphs (now ws))) ⌝ }
     ensures { λ r. ⌜ glyphs (now (ws .exit)) ≡ copied (glyphs (now (ws .entry))) to (glyphs (now (ws .entry))) from n ⌝ }
 {

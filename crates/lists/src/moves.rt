@@ -44,7 +44,7 @@ fn carry_back(run: &mut [u32], other: &mut [u32], separate: bool, from: usize, t
 }
 
 // n glyphs of the input become output.
-pub fn forward(b: Buffer, run: &mut [u32], other: &mut [u32], n: usize) -> Buffer
+pub(crate) fn forward(b: Buffer, run: &mut [u32], other: &mut [u32], n: usize) -> Buffer
     requires { ⌜ Forwardable b n (now run) (now other) ⌝ }
     ensures { λ r. ⌜ Moves (moved n) b (now (run .entry)) (now (other .entry)) r (now (run .exit)) (now (other .exit)) ⌝ }
 {
@@ -55,7 +55,7 @@ pub fn forward(b: Buffer, run: &mut [u32], other: &mut [u32], n: usize) -> Buffe
 }
 
 // The rest of the input goes up by n, and leaves a gap behind the cursor's old place.
-pub fn shift_forward(b: Buffer, run: &mut [u32], n: usize) -> Buffer
+pub(crate) fn shift_forward(b: Buffer, run: &mut [u32], n: usize) -> Buffer
     requires { ⌜ ((other : List ℕ) → length (now run) ≡ length other → Shiftable b n (now run) other) ⌝ }
     ensures { λ r. ⌜ ((other : List ℕ) → length (now (run .entry)) ≡ length other → Moves (growing n) b (now (run .entry)) other r (now (run .exit)) other) ⌝ }
 {
@@ -66,7 +66,7 @@ pub fn shift_forward(b: Buffer, run: &mut [u32], n: usize) -> Buffer
 }
 
 // The last n glyphs of the output become input again.
-pub fn backward(b: Buffer, run: &mut [u32], other: &mut [u32], n: usize) -> Buffer
+pub(crate) fn backward(b: Buffer, run: &mut [u32], other: &mut [u32], n: usize) -> Buffer
     requires { ⌜ Returnable b n (now run) (now other) ⌝ }
     ensures { λ r. ⌜ Moves (back n) b (now (run .entry)) (now (other .entry)) r (now (run .exit)) (now (other .exit)) ⌝ }
 {
