@@ -77,7 +77,7 @@ pub(crate) fn backward(b: Buffer, run: &mut [u32], other: &mut [u32], n: usize) 
 }
 
 // Positions, all zero, for the glyphs of the run.
-pub fn zero_positions(b: Buffer, run: &mut [u32], other: &mut [u32]) -> Buffer
+pub(crate) fn zero_positions(b: Buffer, run: &mut [u32], other: &mut [u32]) -> Buffer
     requires { ⌜ Placeable b (now run) (now other) ⌝ }
     ensures { λ r. ⌜ Moves positioned b (now (run .entry)) (now (other .entry)) r (now (run .exit)) (now (other .exit)) ⌝ }
 {
