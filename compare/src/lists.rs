@@ -1,5 +1,6 @@
 //! Lists of commands from a seed, their comparison, and the shrinking of the first that differs.
 use crate::commands::{bytes_of, Command, OPEN, OPERANDS};
+use crate::known;
 use crate::theirs::{self, Theirs};
 use std::io::Read;
 
@@ -262,13 +263,13 @@ pub fn bytes_of_list(commands: &[Command], number: u64) -> Vec<u8> {
     bytes
 }
 
-/// compare PROGRAM SEED COMMANDS: runs lists until that many commands agreed.
+/// compare PROGRAM SEED COMMANDS: runs lists until that many commands agreed, in all that harfrust has of the lines.
 pub fn compare(arguments: &[String]) {
     let [program, seed, goal, more @ ..] = arguments else { panic!("compare PROGRAM SEED COMMANDS [ARGUMENTS OF PROGRAM]") };
     let (seed, goal): (u64, usize) = (seed.parse().unwrap(), goal.parse().unwrap());
     let both = |l: &[Command], number: u64| {
         let bytes = bytes_of_list(l, number);
-        (theirs::run(CAPACITY, &bytes), crate::ours::run(program, more, &bytes))
+        (theirs::run(CAPACITY, &bytes), known::theirs(&crate::ours::run(program, more, &bytes)))
     };
     let (mut lists, mut commands) = (0, 0);
     while commands < goal {

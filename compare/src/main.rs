@@ -53,6 +53,7 @@ mod shape {
 
 mod commands;
 mod coverage;
+mod known;
 mod lists;
 mod ours;
 mod play;

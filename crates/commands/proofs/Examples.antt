@@ -41,7 +41,7 @@ page os a = record {
 }
 
 -- the account that a run leaves
-left : List (Outcome ℕ) → Account ℕ → Account ℕ
+unfoldable pub left : List (Outcome ℕ) → Account ℕ → Account ℕ
 left [] a = a
 left (o ∷ os) a = left os (o .after)
 
@@ -135,10 +135,10 @@ rows c m zero = []
 rows c m (suc n) = g 0 c m ∷ rows (suc c) m n
 
 -- the four bytes of a small word
-word : ℕ → List ℕ
+unfoldable pub word : ℕ → List ℕ
 word n = n ∷ 0 ∷ 0 ∷ 0 ∷ []
 
-bytes-1 : List ℕ
+unfoldable pub bytes-1 : List ℕ
 bytes-1 = 1 ∷ (word 41 ++ (word 0 ++ (1 ∷ (word 42 ++ (word 1 ++ (1 ∷ (word 43 ++ (word 2 ++ (3 ∷ 14 ∷ (word 2 ++ (word 1 ++ (word 99 ++ (4 ∷ [])))))))))))))
 
 page-1 : Page

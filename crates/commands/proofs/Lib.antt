@@ -13,3 +13,5 @@ pub mod StepLaws
 pub mod RunLaws
 pub mod Returned
 pub mod ReportLaws
+pub mod FieldLaws
+pub mod TotalLaws

@@ -1,73 +1,123 @@
 -- The lines printed at the end of a run: each by its place, and all in document 01's order.
-use mathlib.Core.{Path._≡_, Path.refl, Path.sym, Path.ap, Path.ap₂, Path._∙_, Bool.true, Bool.false, Bool.cond, List.List, List.[], List._∷_, List._++_, List.map, List.flatMap, List.append-nil, List.append-assoc}
-use Prim.Native.Nat.{ℕ, zero, suc, _+_, _-_, _≤_}
+use mathlib.Core.{Path._≡_, Path.refl, Path.sym, Path.ap, Path.ap₂, Path._∙_, Bool.true, Bool.false, Bool.cond, Bool.false≢true, List.List, List.[], List._∷_, List._++_, List.map, List.flatMap, List.append-nil, List.append-assoc}
+use Prim.Native.Nat.{ℕ, zero, suc, _+_, _-_, _<_, _^_}
 use native.Mathlib.Omega.{arith}
-use lib.{ListN.length, ListN.getD, ListN.length-map, ListN.List·getD-map}
-use Rattle.records.specs.{Glyphs.Glyph, Glyphs.change, Glyphs.withPosition, View.seen, View.stored}
+use lib.{ListN.length, ListN.getD, ListN.length-map, ListN.length-append, Seq.getD-at}
+use Rattle.records.specs.{Phase, Plain, Output, Positions, Spoiled, Glyphs.Glyph, Glyphs.change, Glyphs.withPosition, View.seen, View.stored}
 use Rattle.records.proofs.View.{seen-stored}
-use Rattle.lists.specs.{Account.Account, Account.positions, State.account, State.sound, Items.items}
+use Rattle.lists.specs.{Account.Account, Account.positions, Account.outputPhase, Account.positionsPhase, Account.spoiledPhase, State.account, State.sound, State.goneOf, Items.items}
 use Rattle.lists.specs.declared.{Buffer.Buffer, Item.Item, Item.the-variants.OfDone, Item.the-variants.OfPassed, Item.the-variants.OfRest, Item.the-variants.Placed, Item.the-variants.Nothing}
-use Rattle.lists.proofs.ItemLaws.{items-most}
-use Rattle.commands.specs.Lines.{endLine, endLineOf, glyphLine, positionLine, itemLine, reportLines, report, reported, lineOf, Prints}
+use Rattle.lists.proofs.{Accounts.gone-spoiled, Accounts.sound-held, ItemLaws.items-most, ItemLaws.count-without}
+use Rattle.commands.specs.Lines.{endLine, endLineOf, glyphLine, positionLine, itemLine, sumLine, linesAbove, lastLine, reportLines, report, reported, lineOf, Prints}
+use Rattle.commands.specs.Totals.{noTotals, countedBelow, readTotals}
+use Rattle.commands.specs.declared.Totals.{Totals}
 use Rattle.commands.proofs.LineLaws.{end-of}
+use Rattle.commands.proofs.TotalLaws.{below-end}
 
 -- ---- one line
 pub prints-nothing : {l : List ℕ} {at : ℕ} → Prints [] l at at l
 prints-nothing = record { room = λ k. record { list = refl; next = omega arith }; none = λ k. (refl, refl); short = omega arith }
 
-pub prints-same : {line line′ l m : List ℕ} {at r : ℕ} → line ≡ line′ → Prints line l at r m → Prints line′ l at r m
-prints-same e p = rw (← e) p
+empty : {A : Type 0} (l : List A) → length l ≡ 0 → l ≡ []
+empty [] e = refl
+empty (x ∷ l) e = absurd (omega (arith, e))
+
+spoiled-clean : (p : Phase) → spoiledPhase p ≡ true → (positionsPhase p ≡ false) × (outputPhase p ≡ false)
+spoiled-clean Plain h = absurd (false≢true h)
+spoiled-clean Output h = absurd (false≢true h)
+spoiled-clean Positions h = absurd (false≢true h)
+spoiled-clean Spoiled h = (refl, refl)
+
+some-place : (k : ℕ) → (k ≡ 0 → ⊥) → k ≡ suc (k - 1)
+some-place k h = omega (arith, h)
+
+-- a thing's line, and behind them all one line more
+item-at : (l : List Item) (x : List ℕ) (j : ℕ) → (j ≡ length l → ⊥) → itemLine (getD l j Nothing) ≡ lineOf j (map itemLine l ++ (x ∷ []))
+unfolding itemLine
+item-at [] x zero n = absurd (n refl)
+item-at [] x (suc j) n = refl
+item-at (y ∷ l) x zero n = refl
+item-at (y ∷ l) x (suc j) n = item-at l x j (λ e. n (ap suc e))
 
 module _ (b : Buffer) (f s : List ℕ) where
   module _ (h : sound b f s ≡ true) where
-    pub first-line : (k : ℕ) → k ≡ 0 → endLineOf b ≡ lineOf k (reported b f s)
-    unfolding reported reportLines
-    first-line k e = rw (h, e) (end-of b f s h)
-
-    pub later-line : {item : Item} (k : ℕ) → (k ≡ 0 → ⊥) → item ≡ cond (sound b f s) (getD (items (account b f s)) (k - 1) Nothing) Nothing → itemLine item ≡ lineOf k (reported b f s)
-    unfolding reported reportLines itemLine
-    later-line zero n e = absurd (n refl)
-    later-line (suc k) n e = rw (e, h) (ap (λ (i : ℕ). itemLine (getD (items (account b f s)) i Nothing)) (omega arith) ∙ sym (List·getD-map itemLine (items (account b f s)) k Nothing))
-
     module _ {n : ℕ} (e : n ≡ cond (sound b f s) (length (items (account b f s))) 0) where
-      pub count-most : n ≤ 2097152
-      count-most = rw (e, h) (items-most b f s h)
+      many : n ≡ length (items (account b f s))
+      many = rw h at e
 
-      pub lines-counted : 1 + n ≡ length (reported b f s)
-      unfolding reported reportLines
-      lines-counted = rw (e, h) (omega (arith, length-map (items (account b f s)) itemLine))
+      pub count-fits : 2 + n < 2 ^ 64
+      count-fits = omega (arith, many, items-most b f s h)
+
+      pub lines-counted : 2 + n ≡ length (reported b f s)
+      unfolding reported reportLines linesAbove
+      lines-counted = rw (many, h, length-append) (omega (arith, length-map (items (account b f s)) itemLine))
+
+    -- the line with a number: the line `end`, that of a thing, the line `sum`
+    module _ {l m : List ℕ} {at k r : ℕ} where
+      pub prints-end : k ≡ 0 → Prints (endLineOf b) l at r m → Prints (lineOf k (reported b f s)) l at r m
+      unfolding reported reportLines linesAbove
+      prints-end e p = rw (e, h, ← end-of b f s h) p
+
+      module _ {n : ℕ} (some : k ≡ 0 → ⊥) (e : n ≡ cond (sound b f s) (length (items (account b f s))) 0) where
+        pub prints-item : {item : Item} → (k - 1 ≡ n → ⊥) → item ≡ cond (sound b f s) (getD (items (account b f s)) (k - 1) Nothing) Nothing → Prints (itemLine item) l at r m → Prints (lineOf k (reported b f s)) l at r m
+        unfolding reported reportLines linesAbove
+        prints-item inner ei p =
+            let shows = items (account b f s) in
+            let line = item-at shows (lastLine (account b f s)) (k - 1) (λ (here : k - 1 ≡ length shows). inner (here ∙ sym (many e))) in
+            rw (h, some-place k some, ← line) (rw (ei, h) at p)
+
+        pub prints-sum : (t : Totals) → k - 1 ≡ n → t ≡ readTotals (map itemLine (items (account b f s))) → Prints (sumLine t) l at r m → Prints (lineOf k (reported b f s)) l at r m
+        unfolding reported reportLines linesAbove lastLine
+        prints-sum t last et p =
+            let shows = items (account b f s) in
+            let line : getD (map itemLine shows ++ (lastLine (account b f s) ∷ [])) (k - 1) [] ≡ sumLine t
+            = getD-at (map itemLine shows) (lastLine (account b f s)) [] [] (k - 1) (length-map shows itemLine ∙ sym (last ∙ many e)) ∙ ap sumLine (below-end (account b f s) (map itemLine shows) ∙ sym et) in
+            rw (h, some-place k some, line) p
+
+    -- "A spoiled buffer prints three zeros."
+    pub spoiled-lines : spoiledPhase (b .phase) ≡ true → reported b f s ≡ endLineOf b ∷ sumLine noTotals ∷ []
+    unfolding reported reportLines linesAbove lastLine readTotals countedBelow
+    spoiled-lines p =
+        let v = sound-held b f s h in
+        let many : b .«out_len» .0 + (b .len .0 - goneOf b) ≡ length (items (account b f s)) = rw h at (count-without b f s h refl refl (spoiled-clean (b .phase) p .0)) in
+        let none : length (items (account b f s)) ≡ 0 = omega (arith, gone-spoiled b p, v .none (spoiled-clean (b .phase) p .1)) in
+        rw (h, end-of b f s h, empty (items (account b f s)) none) (ap (λ (t : Totals). endLine (account b f s) ∷ sumLine t ∷ []) (below-end (account b f s) []))
 
   module _ (h : sound b f s ≡ false) where
-    pub no-line : (k : ℕ) → [] ≡ lineOf k (reported b f s)
+    pub prints-none : {l : List ℕ} {at : ℕ} (k : ℕ) → Prints (lineOf k (reported b f s)) l at at l
     unfolding reported
-    no-line k = rw h
+    prints-none k = rw h prints-nothing
 
     pub no-lines : 0 ≡ length (reported b f s)
     unfolding reported
     no-lines = rw h
 
--- ---- all of them: "`end` ..; then done `o`, passed `p`, input `i` ..; positions `x`"
-lines : List Item → List ℕ
-lines l = flatMap (λ x. x) (map itemLine l)
+-- ---- all of them: "`end` ..; then done `o`, passed `p`, input `i` ..; positions `x`", and the line `sum`
+module _ (end : List ℕ) where
+  -- the lines of things, and behind them one line more
+  lines : List Item → List ℕ
+  lines l = flatMap (λ x. x) (map itemLine l ++ (end ∷ []))
 
-lines-of : {A : Type 0} (kind : A → Item) (line : A → List ℕ) → ((x : A) → itemLine (kind x) ≡ line x) → (l : List A) (m : List Item) → lines (map kind l ++ m) ≡ flatMap line l ++ lines m
-unfolding lines flatMap
-lines-of kind line e [] m = refl
-lines-of kind line e (x ∷ l) m = ap₂ (λ (a b : List ℕ). a ++ b) (e x) (lines-of kind line e l m) ∙ sym (append-assoc (line x) (flatMap line l) (lines m))
+  lines-of : {A : Type 0} (kind : A → Item) (line : A → List ℕ) → ((x : A) → itemLine (kind x) ≡ line x) → (l : List A) (m : List Item) → lines (map kind l ++ m) ≡ flatMap line l ++ lines m
+  unfolding lines flatMap
+  lines-of kind line e [] m = refl
+  lines-of kind line e (x ∷ l) m = ap₂ (λ (a b : List ℕ). a ++ b) (e x) (lines-of kind line e l m) ∙ sym (append-assoc (line x) (flatMap line l) (lines m))
 
 -- a line shows no position of its glyph
 glyph-line : (kind : ℕ) (g : Glyph ℕ) → glyphLine kind (seen (stored g)) ≡ glyphLine kind g
 unfolding glyphLine change withPosition
 glyph-line kind g = ap (glyphLine kind) (seen-stored g)
 
-pub report-is : (a : Account ℕ) → report a ≡ endLine a ++ (flatMap (glyphLine 111) (a .done) ++ (flatMap (glyphLine 112) (a .passed) ++ (flatMap (glyphLine 105) (a .rest) ++ flatMap positionLine (positions a))))
-unfolding report reportLines flatMap items itemLine lines
-report-is a = ap (λ (l : List ℕ). endLine a ++ l)
-    (lines-of (λ g. OfDone (stored g)) (glyphLine 111) (glyph-line 111) (a .done) _
+pub report-is : (a : Account ℕ) → report a ≡ endLine a ++ (flatMap (glyphLine 111) (a .done) ++ (flatMap (glyphLine 112) (a .passed) ++ (flatMap (glyphLine 105) (a .rest) ++ (flatMap positionLine (positions a) ++ lastLine a))))
+unfolding report reportLines linesAbove flatMap items itemLine lines
+report-is a =
+    let end = lastLine a in
+    ap (λ (l : List ℕ). endLine a ++ l)
+    (lines-of end (λ g. OfDone (stored g)) (glyphLine 111) (glyph-line 111) (a .done) _
     ∙ ap (λ (l : List ℕ). flatMap (glyphLine 111) (a .done) ++ l)
-    (lines-of (λ g. OfPassed (stored g)) (glyphLine 112) (glyph-line 112) (a .passed) _
+    (lines-of end (λ g. OfPassed (stored g)) (glyphLine 112) (glyph-line 112) (a .passed) _
     ∙ ap (λ (l : List ℕ). flatMap (glyphLine 112) (a .passed) ++ l)
-    (lines-of (λ g. OfRest (stored g)) (glyphLine 105) (glyph-line 105) (a .rest) _
+    (lines-of end (λ g. OfRest (stored g)) (glyphLine 105) (glyph-line 105) (a .rest) _
     ∙ ap (λ (l : List ℕ). flatMap (glyphLine 105) (a .rest) ++ l)
-    (ap lines (sym (append-nil (map Placed (positions a))))
-    ∙ (lines-of Placed positionLine (λ q. refl) (positions a) [] ∙ append-nil (flatMap positionLine (positions a)))))))
+    (ap (lines end) (sym (append-nil (map Placed (positions a))))
+    ∙ (lines-of end Placed positionLine (λ q. refl) (positions a) [] ∙ ap (λ (l : List ℕ). flatMap positionLine (positions a) ++ l) (append-nil end))))))

@@ -2,6 +2,8 @@ pub mod Calls
 pub mod Bytes
 pub mod Renaming
 pub mod Demand
+pub mod Fields
+pub mod Totals
 pub mod Lines
 pub mod Reading
 pub mod Scripts

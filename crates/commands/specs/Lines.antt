@@ -6,6 +6,8 @@ use lib.{Dec.ltb, ListN.length, ListN.getD, Seq.sets}
 use Rattle.records.specs.{Position, Answers.Said, Answers.ok, Answers.okWith, Answers.no, Counters.isNegative, Glyphs.Glyph, View.seen}
 use Rattle.lists.specs.{Account.Account, Account.len, Account.idx, Account.outLen, Account.spoiledPhase, State.account, State.sound, Items.items}
 use Rattle.lists.specs.declared.{Buffer.Buffer, Item.Item, Item.the-variants.OfDone, Item.the-variants.OfPassed, Item.the-variants.OfRest, Item.the-variants.Placed, Item.the-variants.Nothing}
+use Rattle.commands.specs.Totals.{readTotals}
+use Rattle.commands.specs.declared.Totals.{Totals}
 
 -- ---- numbers
 -- the last digit of n
@@ -72,9 +74,20 @@ itemLine (OfRest g) = glyphLine 105 (seen g)
 itemLine (Placed q) = positionLine q
 itemLine Nothing = []
 
--- the lines printed at the end of a run
+-- "a line `sum`": glyph lines, groups, glyph lines with mask bit 0
+unfoldable pub sumLine : Totals → List ℕ
+sumLine t = 115 ∷ 117 ∷ 109 ∷ ending (decimal (t .lines) ∷ decimal (t .groups) ∷ decimal (t .marked) ∷ [])
+
+-- the lines printed at the end of a run: those of document 01 ..
+unfoldable pub linesAbove : Account ℕ → List (List ℕ)
+linesAbove a = endLine a ∷ map itemLine (items a)
+
+-- .. and "as the last line of all" the line `sum`: "Each number equals what a reader counts from the lines above it."
+unfoldable pub lastLine : Account ℕ → List ℕ
+lastLine a = sumLine (readTotals (linesAbove a))
+
 unfoldable pub reportLines : Account ℕ → List (List ℕ)
-reportLines a = endLine a ∷ map itemLine (items a)
+reportLines a = linesAbove a ++ (lastLine a ∷ [])
 
 unfoldable pub report : Account ℕ → List ℕ
 report a = flatMap (λ l. l) (reportLines a)

@@ -3,6 +3,7 @@
 use lists::Reply;
 
 pub mod calls;
+pub mod counting;
 pub mod digits;
 pub mod lines;
 pub mod reader;
@@ -60,4 +61,18 @@ pub struct Step {
 pub struct Ran {
     pub reply: Reply,
     pub commands: usize,
+}
+
+// What a reader takes from the line of a glyph. Kind 0 stands for any other line.
+pub struct Entry {
+    pub kind: u8,
+    pub cluster: u32,
+    pub mask: u32,
+}
+
+// The numbers of the line `sum`: glyph lines, groups of equal cluster, glyph lines with mask bit 0.
+pub struct Totals {
+    pub lines: usize,
+    pub groups: usize,
+    pub marked: usize,
 }

@@ -7,7 +7,8 @@ ghost use lib.Dec.{leb};
 ghost use Rattle.records.specs.Answers.{said};
 ghost use Rattle.records.specs.View.{seen};
 ghost use Rattle.lists.specs.Account.{spoiledPhase};
-ghost use Rattle.commands.specs.Lines.{answerLine, endLineOf, glyphLine, positionLine, Wrote, Prints, longest};
+ghost use Rattle.commands.specs.Lines.{answerLine, endLineOf, glyphLine, positionLine, sumLine, Wrote, Prints, longest};
+use super::Totals;
 use super::digits;
 use super::words;
 use lists::Buffer;
@@ -94,6 +95,18 @@ fn put_counters(out: &mut [u8], at: usize, b: Buffer) -> usize
     digits::put(out, k, b'\n')
 }
 
+fn put_totals(out: &mut [u8], at: usize, t: Totals) -> usize
+    requires { ⌜ at + longest ≤ length (now out) ⌝ }
+    ensures { λ r. ⌜ Wrote (sumLine t) (now (out .entry)) at r (now (out .exit)) ⌝ }
+    ensures { λ r. ⌜ r ≤ at + longest ⌝ }
+{
+    let k = words::put_three(out, at, b's', b'u', b'm');
+    let k = words::put_count(out, k, t.lines);
+    let k = words::put_count(out, k, t.groups);
+    let k = words::put_count(out, k, t.marked);
+    digits::put(out, k, b'\n')
+}
+
 // Whether the longest line, of 81 bytes, has room from a place on.
 fn has_room(len: usize, at: usize) -> bool
     ensures { λ r. ⌜ r ≡ leb (at + longest) len ⌝ }
@@ -140,6 +153,16 @@ pub fn position_line(out: &mut [u8], at: usize, p: Position) -> usize
 {
     if has_room(out.len(), at) {
         return put_position(out, at, p);
+    }
+    at
+}
+
+// The line `sum`.
+pub fn sum_line(out: &mut [u8], at: usize, t: Totals) -> usize
+    ensures { λ r. ⌜ Prints (sumLine t) (now (out .entry)) at r (now (out .exit)) ⌝ }
+{
+    if has_room(out.len(), at) {
+        return put_totals(out, at, t);
     }
     at
 }

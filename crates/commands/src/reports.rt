@@ -2,6 +2,7 @@
 ghost use mathlib.Core.Path.{_≡_};
 ghost use lib.ListN.{length};
 ghost use Rattle.commands.specs.Lines.{Prints, itemLine, reported, lineOf};
+use super::counting;
 use super::lines;
 use lists::Buffer;
 use lists::Item;
@@ -24,7 +25,7 @@ pub fn report_count(b: Buffer, first: &[u32], second: &[u32]) -> usize
     ensures { λ r. ⌜ r ≡ length (reported b (now (first .entry)) (now (second .entry))) ⌝ }
 {
     if lists::state::is_sound(b, first, second) {
-        return 1 + lists::items::item_count(b, first, second);
+        return 2 + lists::items::item_count(b, first, second);
     }
     0
 }
@@ -44,7 +45,11 @@ pub fn report_line(
         if k == 0 {
             return lines::end_line(out, at, b);
         }
-        let item = lists::items::item(b, first, second, k - 1);
+        let i = k - 1;
+        if i == lists::items::item_count(b, first, second) {
+            return lines::sum_line(out, at, counting::totals(b, first, second));
+        }
+        let item = lists::items::item(b, first, second, i);
         return item_line(out, at, item);
     }
     at

@@ -2,9 +2,10 @@
 ghost use mathlib.Core.Path.{_≡_};
 ghost use Rattle.records.specs.Answers.{said};
 ghost use Rattle.commands.specs.Lines.{answerLine, lineOf, reported};
-ghost use Rattle.replay.specs.Lines.{Finds, Compared, oneMore};
+ghost use Rattle.replay.specs.Lines.{theirs, Finds, Compared, Checked, oneMore};
 use super::Found;
 use super::Tally;
+use super::known;
 use super::more;
 use super::telling;
 use lists::Buffer;
@@ -69,24 +70,35 @@ fn compare(t: Tally, line: &[u8], text: &[u8]) -> Tally
     }
 }
 
+// Compares what harfrust has of a line, if it has anything.
+fn check(t: Tally, line: &mut [u8], text: &[u8]) -> Tally
+    ensures { λ r. ⌜ Checked (theirs (now (line .entry))) (now (text .entry)) t r ⌝ }
+{
+    let n = known::cut(line, known::known(line));
+    if n == 0 {
+        return t;
+    }
+    compare(t, &line[..n], text)
+}
+
 // The line of a command.
 pub(crate) fn answer(t: Tally, byte: u8, answer: Answer, text: &[u8]) -> Tally
-    ensures { λ r. ⌜ Compared (answerLine byte (said answer)) (now (text .entry)) t r ⌝ }
+    ensures { λ r. ⌜ Checked (theirs (answerLine byte (said answer))) (now (text .entry)) t r ⌝ }
 {
     let mut line = [0u8; 96];
     let n = commands::lines::answer_line(&mut line, 0, byte, answer);
     let mut r = t;
     r.commands = more(t.commands);
-    compare(r, &line[..n], text)
+    check(r, &mut line[..n], text)
 }
 
 // A line of what a buffer shows at the end.
 fn report_line(t: Tally, b: Buffer, first: &[u32], second: &[u32], k: usize, text: &[u8]) -> Tally
-    ensures { λ r. ⌜ Compared (lineOf k (reported b (now (first .entry)) (now (second .entry)))) (now (text .entry)) t r ⌝ }
+    ensures { λ r. ⌜ Checked (theirs (lineOf k (reported b (now (first .entry)) (now (second .entry))))) (now (text .entry)) t r ⌝ }
 {
     let mut line = [0u8; 96];
     let n = commands::reports::report_line(&mut line, 0, b, first, second, k);
-    compare(t, &line[..n], text)
+    check(t, &mut line[..n], text)
 }
 
 pub(crate) fn report(t: Tally, b: Buffer, first: &[u32], second: &[u32], text: &[u8]) -> Tally {

@@ -1,6 +1,5 @@
-use mathlib.Core.Path.{sym, _∙_}
-use native.Mathlib.Omega.{arith}
-use Rattle.commands.proofs.ReportLaws.{count-most, lines-counted, no-lines}
+use Rattle.records.proofs.Tests.{tested}
+use Rattle.commands.proofs.ReportLaws.{count-fits, lines-counted, no-lines}
 use borrow.Author.Needs.{needs}
 use Rattle.commands.proofs.reports.report_count.Statement.{statement}
 use Rattle.commands.proofs.reports.report_count.Tie as tie
@@ -12,13 +11,13 @@ item-count-requires : tie.Need-item-count-requires
 item-count-requires c κs = search needs
 
 add-result : tie.Need-add-result
-add-result c = record { fits = omega (arith, count-most _ _ _ (sym (c .before .before .is-sound .ensures) ∙ c .before .if1 .taken) (c .item-count .ensures)) }
+add-result c = record { fits = search (count-fits, tested) }
 
 returns : tie.Need-returns
-returns c = lines-counted _ _ _ (sym (c .before .before .is-sound .ensures) ∙ c .before .if1 .taken) (c .item-count .ensures)
+returns c = search (lines-counted, tested)
 
 returns-2 : tie.Need-returns-2
-returns-2 c = no-lines _ _ _ (sym (c .before .is-sound .ensures) ∙ c .if1 .left)
+returns-2 c = search (no-lines, tested)
 
 pub report-count-spec : {M : Type 1} → statement M
 report-count-spec =

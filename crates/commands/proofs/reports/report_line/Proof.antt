@@ -1,5 +1,5 @@
-use mathlib.Core.Path.{sym, _∙_}
-use Rattle.commands.proofs.ReportLaws.{prints-nothing, prints-same, first-line, later-line, no-line}
+use Rattle.records.proofs.Tests.{tested}
+use Rattle.commands.proofs.ReportLaws.{prints-end, prints-sum, prints-item, prints-none}
 use borrow.Author.Needs.{needs}
 use Rattle.commands.proofs.reports.report_line.Statement.{statement}
 use Rattle.commands.proofs.reports.report_line.Tie as tie
@@ -14,10 +14,25 @@ same-length : tie.Need-same-length
 same-length c = search needs
 
 returns : tie.Need-returns
-returns c = prints-same (first-line _ _ _ (sym (c .before .before .before .before .before .before .is-sound .ensures) ∙ c .before .before .before .before .before .if1 .taken) _ (c .before .before .before .before .if2 .taken)) (c .before .before .end-line .ensures)
+returns c = search (prints-end, tested)
 
-sub-item : tie.Need-sub-item
-sub-item c = search needs
+sub-i : tie.Need-sub-i
+sub-i c = search needs
+
+item-count-requires : tie.Need-item-count-requires
+item-count-requires c κs = search needs
+
+totals-requires : tie.Need-totals-requires
+totals-requires c κs = search tested
+
+sum-line-requires : tie.Need-sum-line-requires
+sum-line-requires c κs = search needs
+
+same-length-2 : tie.Need-same-length-2
+same-length-2 c = search needs
+
+returns-2 : tie.Need-returns-2
+returns-2 c = search (prints-sum, tested)
 
 item-requires : tie.Need-item-requires
 item-requires c κs = search needs
@@ -25,14 +40,14 @@ item-requires c κs = search needs
 item-line-requires : tie.Need-item-line-requires
 item-line-requires c κs = search needs
 
-same-length-2 : tie.Need-same-length-2
-same-length-2 c = search needs
-
-returns-2 : tie.Need-returns-2
-returns-2 c = prints-same (later-line _ _ _ (sym (c .before .before .before .before .before .before .before .is-sound .ensures) ∙ c .before .before .before .before .before .before .if1 .taken) _ (c .before .before .before .before .before .if2 .left) (c .before .before .before .before .item .ensures)) (c .before .before .item-line .ensures)
+same-length-3 : tie.Need-same-length-3
+same-length-3 c = search needs
 
 returns-3 : tie.Need-returns-3
-returns-3 c = prints-same (no-line _ _ _ (sym (c .before .is-sound .ensures) ∙ c .if1 .left) _) prints-nothing
+returns-3 c = search (prints-item, tested)
+
+returns-4 : tie.Need-returns-4
+returns-4 c = search (prints-none, tested)
 
 pub report-line-spec : {M : Type 1} → statement M
 report-line-spec =
@@ -42,9 +57,14 @@ report-line-spec =
     end-line-requires
     same-length
     returns
-    sub-item
-    item-requires
-    item-line-requires
+    sub-i
+    item-count-requires
+    totals-requires
+    sum-line-requires
     same-length-2
     returns-2
-    returns-3)
+    item-requires
+    item-line-requires
+    same-length-3
+    returns-3
+    returns-4)

@@ -1,0 +1,69 @@
+use Rattle.commands.proofs.TotalLaws.{entry-done, entry-passed, entry-rest, entry-placed, entry-nothing}
+use borrow.Author.Needs.{needs}
+use Rattle.commands.proofs.counting.entry.Statement.{statement}
+use Rattle.commands.proofs.counting.entry.Tie as tie
+
+enum-known-item : tie.Need-enum-known-item
+enum-known-item c = search needs
+
+of-glyph-requires : tie.Need-of-glyph-requires
+of-glyph-requires c κs = search needs
+
+enum-known-item-2 : tie.Need-enum-known-item-2
+enum-known-item-2 c = search needs
+
+of-glyph-requires-2 : tie.Need-of-glyph-requires-2
+of-glyph-requires-2 c κs = search needs
+
+enum-known-item-3 : tie.Need-enum-known-item-3
+enum-known-item-3 c = search needs
+
+of-glyph-requires-3 : tie.Need-of-glyph-requires-3
+of-glyph-requires-3 c κs = search needs
+
+enum-told : tie.Need-enum-told
+enum-told c = search needs
+
+no-entry-requires : tie.Need-no-entry-requires
+no-entry-requires c κs = search needs
+
+enum-told-2 : tie.Need-enum-told-2
+enum-told-2 c = search needs
+
+no-entry-requires-2 : tie.Need-no-entry-requires-2
+no-entry-requires-2 c κs = search needs
+
+returns : tie.Need-returns
+returns c = search entry-done
+
+returns-2 : tie.Need-returns-2
+returns-2 c = search entry-passed
+
+returns-3 : tie.Need-returns-3
+returns-3 c = search entry-rest
+
+returns-4 : tie.Need-returns-4
+returns-4 c = search entry-placed
+
+returns-5 : tie.Need-returns-5
+returns-5 c = search entry-nothing
+
+pub entry-spec : {M : Type 1} → statement M
+entry-spec =
+    tie.close
+    (tie.spec
+    enum-known-item
+    of-glyph-requires
+    enum-known-item-2
+    of-glyph-requires-2
+    enum-known-item-3
+    of-glyph-requires-3
+    enum-told
+    no-entry-requires
+    enum-told-2
+    no-entry-requires-2
+    returns
+    returns-2
+    returns-3
+    returns-4
+    returns-5)

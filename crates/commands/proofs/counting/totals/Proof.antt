@@ -1,0 +1,60 @@
+-- k things were counted.
+use Prim.Native.Nat.{_-_}
+use native.Mathlib.Omega.{arith}
+use borrow.Author.Needs.{needs}
+use Rattle.commands.proofs.TotalLaws.{Counting, counting-none, counting-more, counting-all, counting-room}
+use Rattle.commands.proofs.counting.totals.Statement.{statement}
+use Rattle.commands.proofs.counting.totals.Tie as tie
+
+abbrev Inv-loop : tie.InvT-loop
+Inv-loop b first second n t₀ above₀ k₀ t above k = Counting b first second k t above
+
+abbrev μ-loop : tie.MeasureT-loop
+μ-loop b first second n t₀ above₀ k₀ t above k = n - k
+
+item-count-requires : tie.Need-item-count-requires Inv-loop μ-loop
+item-count-requires c κs = search needs
+
+no-entry-requires : tie.Need-no-entry-requires Inv-loop μ-loop
+no-entry-requires c κs = search needs
+
+loop-holds : tie.Need-loop-holds Inv-loop μ-loop
+loop-holds c = search counting-none
+
+item-requires : tie.Need-item-requires Inv-loop μ-loop
+item-requires c κs = search needs
+
+entry-requires : tie.Need-entry-requires Inv-loop μ-loop
+entry-requires c κs = search needs
+
+count-requires : tie.Need-count-requires Inv-loop μ-loop
+count-requires c κs = search counting-room
+
+add-k : tie.Need-add-k Inv-loop μ-loop
+add-k c = search needs
+
+loop-less : tie.Need-loop-less Inv-loop μ-loop
+loop-less c = omega arith
+
+loop-again : tie.Need-loop-again Inv-loop μ-loop
+loop-again c = search counting-more
+
+returns : tie.Need-returns Inv-loop μ-loop
+returns c = search counting-all
+
+pub totals-spec : {M : Type 1} → statement M
+totals-spec =
+    tie.close
+    (tie.spec
+    Inv-loop
+    μ-loop
+    item-count-requires
+    no-entry-requires
+    loop-holds
+    item-requires
+    entry-requires
+    count-requires
+    add-k
+    loop-less
+    loop-again
+    returns)

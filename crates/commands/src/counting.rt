@@ -1,0 +1,98 @@
+// The numbers of the line `sum`, counted in one pass over what a buffer shows.
+ghost use mathlib.Core.Path.{_≡_};
+ghost use mathlib.Core.Bool.{true};
+ghost use mathlib.Core.List.{map};
+ghost use Prim.Native.Nat.{_+_, _<_, _^_};
+ghost use Rattle.lists.specs.Items.{items};
+ghost use Rattle.lists.specs.State.{account, sound};
+ghost use Rattle.commands.specs.Fields.{number};
+ghost use Rattle.commands.specs.Lines.{decimal, itemLine};
+ghost use Rattle.commands.specs.Totals.{noEntry, readLine, plus, starts, counted, readTotals};
+use super::Entry;
+use super::Totals;
+use lists::Buffer;
+use lists::Item;
+
+// A glyph's words are what a reader of its line reads.
+fn of_glyph(kind: u8, cluster: u32, mask: u32) -> Entry
+    ensures { λ r. ⌜ r ≡ record { kind = kind; cluster = number (decimal cluster); mask = number (decimal mask) } ⌝ }
+{
+    Entry {
+        kind,
+        cluster,
+        mask,
+    }
+}
+
+fn no_entry() -> Entry
+    ensures { λ r. ⌜ r ≡ noEntry ⌝ }
+{
+    Entry {
+        kind: 0,
+        cluster: 0,
+        mask: 0,
+    }
+}
+
+// What a reader takes from the line of one thing that a buffer shows.
+fn entry(item: Item) -> Entry
+    ensures { λ r. ⌜ r ≡ readLine (itemLine item) ⌝ }
+{
+    match item {
+        Item::OfDone(g) => of_glyph(b'o', g.cluster, g.mask),
+        Item::OfPassed(g) => of_glyph(b'p', g.cluster, g.mask),
+        Item::OfRest(g) => of_glyph(b'i', g.cluster, g.mask),
+        Item::Placed(_) => no_entry(),
+        Item::Nothing => no_entry(),
+    }
+}
+
+// How many groups a line starts: 1 or 0.
+fn started(above: Entry, line: Entry) -> usize
+    ensures { λ r. ⌜ r ≡ starts above line ⌝ }
+{
+    if above.kind != line.kind {
+        return 1;
+    }
+    if above.cluster != line.cluster {
+        return 1;
+    }
+    0
+}
+
+// With one line more.
+fn count(t: Totals, above: Entry, line: Entry) -> Totals
+    requires { ⌜ t .lines + t .groups + t .marked < 2 ^ 32 ⌝ }
+    ensures { λ r. ⌜ r ≡ plus t (counted above line) ⌝ }
+{
+    if line.kind == 0 {
+        return t;
+    }
+    let bit = (line.mask % 2) as usize;
+    Totals {
+        lines: t.lines + 1,
+        groups: t.groups + started(above, line),
+        marked: t.marked + bit,
+    }
+}
+
+// What a reader counts from the lines of all that a buffer shows.
+pub(crate) fn totals(b: Buffer, first: &[u32], second: &[u32]) -> Totals
+    requires { ⌜ sound b (now first) (now second) ≡ true ⌝ }
+    ensures { λ r. ⌜ r ≡ readTotals (map itemLine (items (account b (now (first .entry)) (now (second .entry))))) ⌝ }
+{
+    let n = lists::items::item_count(b, first, second);
+    let mut t = Totals {
+        lines: 0,
+        groups: 0,
+        marked: 0,
+    };
+    let mut above = no_entry();
+    for k in 0..n {
+        let item = lists::items::item(b, first, second, k);
+        let line = entry(item);
+        t = count(t, above, line);
+        above = line;
+    }
+    t
+}
