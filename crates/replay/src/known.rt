@@ -24,12 +24,14 @@ fn space_at(line: &[u8], n: usize) -> usize
     let mut left = n;
     let mut i = 0;
     while i < line.len() {
-        if line[i] == b' ' {
-            if left == 0 {
-                return i;
-            }
-            left -= 1;
+        if line[i] != b' ' {
+            i += 1;
+            continue;
         }
+        if left == 0 {
+            return i;
+        }
+        left -= 1;
         i += 1;
     }
     i

@@ -1,8 +1,7 @@
-use mathlib.Core.Path.{sym}
-use lib.Seq.{length-take-le}
-use borrow.Author.Needs.{needs}
+use mathlib.Core.Path.{refl}
 use native.Mathlib.Omega.{arith}
-use Rattle.replay.proofs.Bytes.{printed}
+use Rattle.replay.proofs.KnownLaws.{prefix-length, checked-printed}
+use borrow.Author.Needs.{needs}
 use Rattle.replay.proofs.comparing.answer.Statement.{statement}
 use Rattle.replay.proofs.comparing.answer.Tie as tie
 
@@ -15,19 +14,17 @@ answer-line-requires c κs = search needs
 more-requires : tie.Need-more-requires
 more-requires c κs = search needs
 
-array-share-prefix-line : tie.Need-array-share-prefix-line
-array-share-prefix-line c = search needs
+array-borrow-prefix-line : tie.Need-array-borrow-prefix-line
+array-borrow-prefix-line c = search needs
 
-slice-aggregate-compare : tie.Need-slice-aggregate-compare
-slice-aggregate-compare c = sym (length-take-le _ _ (omega (arith, c .before .before .before .answer-line .ensures .short, c .before .before .before .answer-line .kept .0)))
+slice-aggregate-check : tie.Need-slice-aggregate-check
+slice-aggregate-check c = prefix-length _ _ (omega (arith, c .before .before .before .answer-line .ensures .short, c .before .before .before .answer-line .kept .0))
 
-compare-requires : tie.Need-compare-requires
-compare-requires c κs = search needs
+check-requires : tie.Need-check-requires
+check-requires c κs = search needs
 
 returns : tie.Need-returns
-returns c =
-    let compared = c .compare .ensures in
-    rw (← printed (c .before .before .before .before .answer-line .ensures) (omega arith)) (record { counted = compared .counted; same = compared .same; other = compared .other })
+returns c = checked-printed _ _ _ _ (c .before .before .before .before .before .answer-line .ensures) (omega arith) refl refl refl (c .before .check .ensures)
 
 pub answer-spec : {M : Type 1} → statement M
 answer-spec =
@@ -36,7 +33,7 @@ answer-spec =
     slice-aggregate-answer-line
     answer-line-requires
     more-requires
-    array-share-prefix-line
-    slice-aggregate-compare
-    compare-requires
+    array-borrow-prefix-line
+    slice-aggregate-check
+    check-requires
     returns)

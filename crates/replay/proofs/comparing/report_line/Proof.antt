@@ -1,8 +1,7 @@
-use mathlib.Core.Path.{sym}
-use lib.Seq.{length-take-le}
-use borrow.Author.Needs.{needs}
+use mathlib.Core.Path.{refl}
 use native.Mathlib.Omega.{arith}
-use Rattle.replay.proofs.Bytes.{printed}
+use Rattle.replay.proofs.KnownLaws.{prefix-length, checked-printed}
+use borrow.Author.Needs.{needs}
 use Rattle.replay.proofs.comparing.report_line.Statement.{statement}
 use Rattle.replay.proofs.comparing.report_line.Tie as tie
 
@@ -12,17 +11,17 @@ slice-aggregate-report-line c = search needs
 report-line-requires : tie.Need-report-line-requires
 report-line-requires c κs = search needs
 
-array-share-prefix-line : tie.Need-array-share-prefix-line
-array-share-prefix-line c = search needs
+array-borrow-prefix-line : tie.Need-array-borrow-prefix-line
+array-borrow-prefix-line c = search needs
 
-slice-aggregate-compare : tie.Need-slice-aggregate-compare
-slice-aggregate-compare c = sym (length-take-le _ _ (omega (arith, c .before .before .report-line .ensures .short, c .before .before .report-line .kept .0)))
+slice-aggregate-check : tie.Need-slice-aggregate-check
+slice-aggregate-check c = prefix-length _ _ (omega (arith, c .before .before .report-line .ensures .short, c .before .before .report-line .kept .0))
 
-compare-requires : tie.Need-compare-requires
-compare-requires c κs = search needs
+check-requires : tie.Need-check-requires
+check-requires c κs = search needs
 
 returns : tie.Need-returns
-returns c = rw (← printed (c .before .before .before .report-line .ensures) (omega arith)) (c .compare .ensures)
+returns c = checked-printed _ _ _ _ (c .before .before .before .before .report-line .ensures) (omega arith) refl refl refl (c .before .check .ensures)
 
 pub report-line-spec : {M : Type 1} → statement M
 report-line-spec =
@@ -30,7 +29,7 @@ report-line-spec =
     (tie.spec
     slice-aggregate-report-line
     report-line-requires
-    array-share-prefix-line
-    slice-aggregate-compare
-    compare-requires
+    array-borrow-prefix-line
+    slice-aggregate-check
+    check-requires
     returns)
