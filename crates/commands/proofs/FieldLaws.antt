@@ -1,11 +1,11 @@
 -- Printed text read back: a decimal gives its number, and a line its fields.
 use mathlib.Core.{Path._≡_, Path.refl, Path.ap, Path._∙_, Bool.Bool, Bool.true, Bool.false, List.List, List.[], List._∷_, List._++_}
-use Prim.Native.Nat.{ℕ, zero, suc, _+_, _-_, _*_, _/_, _%_, _<_, _^_}
+use Prim.Native.Nat.{ℕ, zero, suc, _+_, _-_, _*_, _/_, _<_, _^_}
 use native.Mathlib.Omega.{arith}
 use native.Mathlib.Nat.{pow-suc}
 use lib.{Dec.eqb, Dec.ltb}
 use borrow.Author.Tests.{ne-eqb, ltb-true}
-use Rattle.commands.specs.Fields.{readOn, number, onto, before, fields}
+use Rattle.commands.specs.Fields.{readOn, number, onto, parted, fields}
 use Rattle.commands.specs.Lines.{digitOf, digits, decimal, ending}
 
 -- ---- numbers
@@ -60,18 +60,18 @@ pub plain-decimal : (n : ℕ) → Plain (decimal n)
 unfolding decimal
 plain-decimal n = plain-digits 20 n
 
-plain-before : (c : ℕ) (ws : List (List ℕ)) → 32 < c → before c ws ≡ onto c ws
-unfolding before
-plain-before c ws h = rw (ne-eqb c 32 (λ e. omega arith), ne-eqb c 10 (λ e. omega arith))
+plain-parted : (c : ℕ) (ws : List (List ℕ)) → 32 < c → parted c ws ≡ onto c ws
+unfolding parted
+plain-parted c ws h = rw (ne-eqb c 32 (λ e. omega arith), ne-eqb c 10 (λ e. omega arith))
 
 -- a word before what starts with a field
 fields-on : (w r : List ℕ) (ws : List (List ℕ)) → Plain w → fields r ≡ [] ∷ ws → fields (w ++ r) ≡ w ∷ ws
 unfolding fields onto
 fields-on [] r ws p e = e
-fields-on (c ∷ w) r ws p e = plain-before c (fields (w ++ r)) (p .0) ∙ ap (onto c) (fields-on w r ws (p .1) e)
+fields-on (c ∷ w) r ws p e = plain-parted c (fields (w ++ r)) (p .0) ∙ ap (onto c) (fields-on w r ws (p .1) e)
 
 fields-ending : (ws : List (List ℕ)) → AllPlain ws → fields (ending ws) ≡ [] ∷ ws
-unfolding fields before ending
+unfolding fields parted ending
 fields-ending [] p = refl
 fields-ending (w ∷ ws) p = ap (λ (l : List (List ℕ)). [] ∷ l) (fields-on w (ending ws) ws (p .0) (fields-ending ws (p .1)))
 

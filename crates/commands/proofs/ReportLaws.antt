@@ -45,8 +45,8 @@ module _ (b : Buffer) (f s : List ℕ) where
       many : n ≡ length (items (account b f s))
       many = rw h at e
 
-      pub count-fits : 2 + n < 2 ^ 64
-      count-fits = omega (arith, many, items-most b f s h)
+      pub count-fits : {j : ℕ} → j < 8 → j + n < 2 ^ 64
+      count-fits j = omega (arith, many, items-most b f s h)
 
       pub lines-counted : 2 + n ≡ length (reported b f s)
       unfolding reported reportLines linesAbove

@@ -9,10 +9,11 @@ use Rattle.lists.specs.{Account.Account, Account.renamed, Results.Result, Resul
 use Rattle.lists.proofs.{Renaming.begun-renamed, Accounts.sound-lent, Chains.meets-sound, Simple.refuse-yes}
 use Rattle.commands.specs.{Calls.Worded, Calls.perform, Calls.step, Calls.run, Bytes.readUpTo, Bytes.runRead, Renaming.renamedOutcome, Renaming.reworded, Renaming.renamedBytes}
 use Rattle.commands.specs.{Steps.called, Runs.lastOf, Runs.outcomes, Runs.Runs}
+use Rattle.commands.specs.Lines.{lastLine}
 use Rattle.commands.specs.Demand.{SameOutcome, Renamed, forget}
 use Rattle.commands.specs.Returned.{SameLengths, Left, leftOf, DirectRun, LeftAt, leftAt, StepRun}
 use Rattle.commands.specs.declared.Ran.{Ran}
-use Rattle.commands.proofs.{Renaming.step-rename, Renaming.refused-outcome, Bytes.string-rename, StepLaws.judged-called, RunLaws.goes-on, RunLaws.same-sound, RunLaws.ends}
+use Rattle.commands.proofs.{Renaming.step-rename, Renaming.refused-outcome, Bytes.string-rename, StepLaws.judged-called, RunLaws.goes-on, RunLaws.same-sound, RunLaws.ends, TotalLaws.same-last-line}
 use Rattle.commands.proofs.Demand.{same-account, same-outcome, same-outcomes, demand-3-from, two-wordings, strings-alike}
 
 -- ---- direct calls
@@ -145,3 +146,9 @@ module _ (script other : List ℕ) (e : renamedBytes (λ w. 0) script ≡ rename
       = sym (lastOf-map forget before os) ∙ (ap (lastOf (renamedOutcome forget before)) wordings-outcomes ∙ lastOf-map forget before ps) in
       let many : length ps ≡ length os = sym (length-map ps (renamedOutcome forget)) ∙ (ap (λ (l : List (Outcome (Unit {0}))). length l) (sym wordings-outcomes) ∙ length-map os (renamedOutcome forget)) in
       (rw (c .last, d .last) same, d .all ∙ (many ∙ sym (c .all)))
+
+  -- so the line `sum` of what is left is the same
+  pub two-wordings-sum : (r r′ : Ran) (f₁ s₁ f₂ s₂ : List ℕ) → Runs script b first second r f₁ s₁ → Runs other b first second r′ f₂ s₂
+      → lastLine (account (r .reply .buffer) f₁ s₁) ≡ lastLine (account (r′ .reply .buffer) f₂ s₂)
+  unfolding renamedOutcome
+  two-wordings-sum r r′ f₁ s₁ f₂ s₂ c d = same-last-line forget (account (r .reply .buffer) f₁ s₁) (account (r′ .reply .buffer) f₂ s₂) (ap (λ (o : Outcome (Unit {0})). o .after) (two-wordings-run r r′ f₁ s₁ f₂ s₂ c d .0))

@@ -1,6 +1,6 @@
 -- The line `sum`: what a reader takes from each line, what the lines come to, and that no glyph number counts.
 use mathlib.Core.{Path._≡_, Path.refl, Path.sym, Path.ap, Path.ap₂, Path._∙_, Bool.Bool, Bool.true, Bool.false, Bool.cond, Bool._&&_, List.List, List.[], List._∷_, List._++_, List.map, List.append-nil}
-use Prim.Native.Nat.{ℕ, zero, suc, _+_, _*_, _%_, _≤_, _<_, _^_}
+use Prim.Native.Nat.{ℕ, _+_, _*_, _%_, _≤_, _<_, _^_}
 use native.Mathlib.Omega.{arith}
 use native.Mathlib.Numerals.{add-one}
 use borrow.Author.Tests.{eq-eqb, ne-eqb}
@@ -12,10 +12,10 @@ use Rattle.lists.specs.{Account.Account, Account.positions, Account.renamed, St
 use Rattle.lists.specs.declared.{Buffer.Buffer, Item.Item, Item.the-variants.OfDone, Item.the-variants.OfPassed, Item.the-variants.OfRest, Item.the-variants.Placed, Item.the-variants.Nothing}
 use Rattle.lists.proofs.{ItemLaws.items-most, Renaming.done-rename, Renaming.passed-rename, Renaming.rest-rename, Renaming.positions-rename}
 use Rattle.commands.specs.Fields.{number}
-use Rattle.commands.specs.Lines.{decimal, ending, glyphLine, positionLine, countersLine, endLine, itemLine, sumLine, linesAbove, lastLine}
+use Rattle.commands.specs.Lines.{decimal, glyphLine, positionLine, countersLine, endLine, itemLine, sumLine, linesAbove, lastLine}
 use Rattle.commands.specs.Totals.{isGlyphKind, noEntry, readLine, noTotals, plus, starts, counted, countedBelow, readTotals}
 use Rattle.commands.specs.declared.{Entry.Entry, Totals.Totals}
-use Rattle.commands.proofs.FieldLaws.{number-decimal, Plain, plain-decimal, fields-line}
+use Rattle.commands.proofs.FieldLaws.{number-decimal, plain-decimal, fields-line}
 
 -- ---- lines read
 -- what is read of a glyph: nothing of its number
@@ -23,11 +23,11 @@ unfoldable pub taken : ℕ → Info → Entry
 taken kind i = record { kind = kind; cluster = number (decimal (i .cluster)); mask = number (decimal (i .mask)) }
 
 -- a glyph line, whatever its kind
-pub read-glyph : (kind : ℕ) → isGlyphKind kind ≡ true → 32 < kind → (g : Glyph ℕ) → readLine (glyphLine kind g) ≡ taken kind (g .info)
+read-glyph : (kind : ℕ) → isGlyphKind kind ≡ true → 32 < kind → (g : Glyph ℕ) → readLine (glyphLine kind g) ≡ taken kind (g .info)
 unfolding readLine glyphLine taken
 read-glyph kind h k g = rw (h, fields-line (kind ∷ []) (map decimal (g .glyph ∷ g .info .cluster ∷ g .info .mask ∷ g .info .var0 ∷ g .info .var1 ∷ [])) (k, tt) (plain-decimal _, (plain-decimal _, (plain-decimal _, (plain-decimal _, (plain-decimal _, tt)))))) refl
 
-pub read-position : (q : Position) → readLine (positionLine q) ≡ noEntry
+read-position : (q : Position) → readLine (positionLine q) ≡ noEntry
 unfolding readLine positionLine isGlyphKind
 read-position q = refl
 
@@ -38,6 +38,9 @@ read-end a = refl
 glyph-read : (kind : ℕ) → isGlyphKind kind ≡ true → 32 < kind → (g : Words) → readLine (glyphLine kind (seen g)) ≡ record { kind = kind; cluster = number (decimal (g .cluster)); mask = number (decimal (g .mask)) }
 unfolding taken
 glyph-read kind h k g = rw (read-glyph kind h k (seen g), seen-cluster g, seen-mask g) refl
+
+nothing-read : _≡_ {A = Entry} (record { kind = 0; cluster = number (decimal 0); mask = number (decimal 0) }) noEntry
+nothing-read = rw (number-decimal 0 (omega arith)) refl
 
 -- what the code takes from each thing that a buffer shows is what is read of its line
 module _ {item : Item} {e : Entry} where
@@ -54,13 +57,13 @@ module _ {item : Item} {e : Entry} where
     unfolding itemLine isGlyphKind
     entry-rest i is = is ∙ rw i (sym (glyph-read 105 refl (omega arith) g))
 
-  pub entry-placed : {q : Position} → item ≡ Placed q → e ≡ noEntry → e ≡ readLine (itemLine item)
+  pub entry-placed : {q : Position} → item ≡ Placed q → e ≡ record { kind = 0; cluster = number (decimal 0); mask = number (decimal 0) } → e ≡ readLine (itemLine item)
   unfolding itemLine
-  entry-placed {q} i is = is ∙ rw i (sym (read-position q))
+  entry-placed {q} i is = is ∙ (nothing-read ∙ rw i (sym (read-position q)))
 
-  pub entry-nothing : item ≡ Nothing → e ≡ noEntry → e ≡ readLine (itemLine item)
+  pub entry-nothing : item ≡ Nothing → e ≡ record { kind = 0; cluster = number (decimal 0); mask = number (decimal 0) } → e ≡ readLine (itemLine item)
   unfolding itemLine readLine isGlyphKind
-  entry-nothing i is = is ∙ rw i refl
+  entry-nothing i is = is ∙ (nothing-read ∙ rw i refl)
 
 -- a word that is printed is the word that is read
 pub entry-of : (kind : ℕ) {cluster mask : ℕ} → cluster < 2 ^ 32 → mask < 2 ^ 32 → _≡_ {A = Entry} (record { kind = kind; cluster = cluster; mask = mask }) (record { kind = kind; cluster = number (decimal cluster); mask = number (decimal mask) })
@@ -83,7 +86,7 @@ read-of item entry e (x ∷ l) m = ap₂ (λ (y : Entry) (r : List Entry). y ∷
 
 stored-line : (kind : ℕ) → isGlyphKind kind ≡ true → 32 < kind → (g : Glyph ℕ) → readLine (glyphLine kind (seen (stored g))) ≡ taken kind (g .info)
 unfolding taken stored
-stored-line kind h k g = read-glyph kind h k (seen (stored g)) ∙ rw (seen-cluster (stored g), seen-mask (stored g)) refl
+stored-line kind h k g = glyph-read kind h k (stored g)
 
 items-read : (a : Account ℕ) → map readLine (map itemLine (items a)) ≡ entries a
 unfolding items entries itemLine isGlyphKind
@@ -120,19 +123,6 @@ unfolding readTotals countedBelow counted
 below-end a ls = rw (read-end a) (none-plus (countedBelow noEntry (map readLine ls)))
 
 -- ---- one line after the other
-three-at-most : (above line : Entry) → counted above line .lines + counted above line .groups + counted above line .marked ≤ 3
-unfolding counted starts
-three-at-most above line = by-tests (eqb (line .kind) 0) (eqb (above .kind) (line .kind) && eqb (above .cluster) (line .cluster))
-  where
-    by-tests : (p q : Bool) → let t = cond p noTotals (record { lines = 1; groups = cond q 0 1; marked = line .mask % 2 }) in t .lines + t .groups + t .marked ≤ 3
-    by-tests true q = omega arith
-    by-tests false true = omega arith
-    by-tests false false = omega arith
-
-more-most : (t u : Totals) (k : ℕ) → t .lines + t .groups + t .marked ≤ 3 * k → u .lines + u .groups + u .marked ≤ 3 → plus t u .lines + plus t u .groups + plus t u .marked ≤ 3 * (k + 1)
-unfolding plus
-more-most t u k h o = omega arith
-
 module _ (above line : Entry) where
   pub other-kind : (above .kind ≡ line .kind → ⊥) → 1 ≡ starts above line
   unfolding starts
@@ -146,18 +136,7 @@ module _ (above line : Entry) where
   unfolding starts
   same-group k h = rw (eq-eqb _ _ k, eq-eqb _ _ h) refl
 
-  starts-most : starts above line ≤ 1
-  unfolding starts
-  starts-most = by-test (eqb (above .kind) (line .kind) && eqb (above .cluster) (line .cluster))
-    where
-      by-test : (p : Bool) → cond p 0 1 ≤ 1
-      by-test true = omega arith
-      by-test false = omega arith
-
   module _ (t : Totals) where
-    pub group-fits : {n : ℕ} → t .lines + t .groups + t .marked < 2 ^ 32 → n ≡ starts above line → t .groups + n < 2 ^ 64
-    group-fits h e = omega (arith, h, e, starts-most)
-
     pub count-none : line .kind ≡ 0 → t ≡ plus t (counted above line)
     unfolding counted
     count-none h = rw (eq-eqb _ _ h) (sym (plus-none t))
@@ -166,15 +145,35 @@ module _ (above line : Entry) where
     unfolding counted plus
     count-one h e = rw (ne-eqb _ _ h, e) refl
 
+starts-most : (above line : Entry) → starts above line ≤ 1
+unfolding starts
+starts-most above line = one-or-none (eqb (above .kind) (line .kind) && eqb (above .cluster) (line .cluster))
+  where
+    one-or-none : (p : Bool) → cond p 0 1 ≤ 1
+    one-or-none true = omega arith
+    one-or-none false = omega arith
+
+three-at-most : (above line : Entry) (t : Bool) → eqb (line .kind) 0 ≡ t → counted above line .lines + counted above line .groups + counted above line .marked ≤ 3
+unfolding counted
+three-at-most above line true e = rw e (omega arith)
+three-at-most above line false e = rw e (omega (arith, starts-most above line))
+
+more-most : (t u : Totals) (k : ℕ) → t .lines + t .groups + t .marked ≤ 3 * k → u .lines + u .groups + u .marked ≤ 3 → plus t u .lines + plus t u .groups + plus t u .marked ≤ 3 * (k + 1)
+unfolding plus
+more-most t u k h o = omega arith
+
+pub group-fits : (above line : Entry) (t : Totals) {n : ℕ} → t .lines + t .groups + t .marked < 2 ^ 32 → n ≡ starts above line → t .groups + n < 2 ^ 64
+group-fits above line t h e = omega (arith, h, e, starts-most above line)
+
 -- k things were counted, the last with this entry; the others are to come
 pub record Counting (b : Buffer) (f s : List ℕ) (k : ℕ) (t : Totals) (above : Entry) : Type 0 where
   pub to-come : plus t (countedBelow above (map readLine (map itemLine (drop k (items (account b f s)))))) ≡ readTotals (map itemLine (items (account b f s)))
   pub fewer : t .lines + t .groups + t .marked ≤ 3 * k
 
 module _ {b : Buffer} {f s : List ℕ} where
-  pub counting-none : {above : Entry} → above ≡ noEntry → Counting b f s 0 noTotals above
+  pub counting-none : {above : Entry} → above ≡ record { kind = 0; cluster = number (decimal 0); mask = number (decimal 0) } → Counting b f s 0 noTotals above
   unfolding readTotals
-  counting-none e = record { to-come = rw e (none-plus _); fewer = omega arith }
+  counting-none e = record { to-come = rw (e, nothing-read) (none-plus _); fewer = omega arith }
 
   module _ {k n : ℕ} {t : Totals} {above : Entry} (v : Counting b f s k t above) (h : sound b f s ≡ true) (en : n ≡ cond (sound b f s) (length (items (account b f s))) 0) where
     pub counting-more : {item : Item} {line : Entry} {u : Totals} → k < n → item ≡ cond (sound b f s) (getD (items (account b f s)) k Nothing) Nothing → line ≡ readLine (itemLine item) → u ≡ plus t (counted above line) → Counting b f s (k + 1) u line
@@ -187,7 +186,7 @@ module _ {b : Buffer} {f s : List ℕ} where
         let step : countedBelow above (map readLine (map itemLine (drop k shows))) ≡ plus (counted above line) (countedBelow line (map readLine (map itemLine (drop (k + 1) shows)))) = rw (below, el) refl in
         record {
           to-come = rw eu (plus-plus t (counted above line) _ ∙ (ap (plus t) (sym step) ∙ v .to-come));
-          fewer = rw eu (more-most t (counted above line) k (v .fewer) (three-at-most above line));
+          fewer = rw eu (more-most t (counted above line) k (v .fewer) (three-at-most above line (eqb (line .kind) 0) refl));
         }
 
     pub counting-all : n ≤ k → t ≡ readTotals (map itemLine (items (account b f s)))

@@ -18,10 +18,10 @@ onto c [] = (c ∷ []) ∷ []
 onto c (w ∷ ws) = (c ∷ w) ∷ ws
 
 -- a space starts a field more, and behind the line feed there is none
-unfoldable pub before : ℕ → List (List ℕ) → List (List ℕ)
-before c ws = cond (eqb c 32) ([] ∷ ws) (cond (eqb c 10) ([] ∷ []) (onto c ws))
+unfoldable pub parted : ℕ → List (List ℕ) → List (List ℕ)
+parted c ws = cond (eqb c 32) ([] ∷ ws) (cond (eqb c 10) ([] ∷ []) (onto c ws))
 
 -- the fields of a line
 unfoldable pub fields : List ℕ → List (List ℕ)
 fields [] = [] ∷ []
-fields (c ∷ l) = before c (fields l)
+fields (c ∷ l) = parted c (fields l)

@@ -7,14 +7,14 @@ ghost use Rattle.lists.specs.Items.{items};
 ghost use Rattle.lists.specs.State.{account, sound};
 ghost use Rattle.commands.specs.Fields.{number};
 ghost use Rattle.commands.specs.Lines.{decimal, itemLine};
-ghost use Rattle.commands.specs.Totals.{noEntry, readLine, plus, starts, counted, readTotals};
+ghost use Rattle.commands.specs.Totals.{readLine, plus, starts, counted, readTotals};
 use super::Entry;
 use super::Totals;
 use lists::Buffer;
 use lists::Item;
 
-// A glyph's words are what a reader of its line reads.
-fn of_glyph(kind: u8, cluster: u32, mask: u32) -> Entry
+// What is read of words that are printed: the words. Kind 0 stands for a line that is no glyph's.
+fn entry_of(kind: u8, cluster: u32, mask: u32) -> Entry
     ensures { λ r. ⌜ r ≡ record { kind = kind; cluster = number (decimal cluster); mask = number (decimal mask) } ⌝ }
 {
     Entry {
@@ -24,26 +24,16 @@ fn of_glyph(kind: u8, cluster: u32, mask: u32) -> Entry
     }
 }
 
-fn no_entry() -> Entry
-    ensures { λ r. ⌜ r ≡ noEntry ⌝ }
-{
-    Entry {
-        kind: 0,
-        cluster: 0,
-        mask: 0,
-    }
-}
-
 // What a reader takes from the line of one thing that a buffer shows.
 fn entry(item: Item) -> Entry
     ensures { λ r. ⌜ r ≡ readLine (itemLine item) ⌝ }
 {
     match item {
-        Item::OfDone(g) => of_glyph(b'o', g.cluster, g.mask),
-        Item::OfPassed(g) => of_glyph(b'p', g.cluster, g.mask),
-        Item::OfRest(g) => of_glyph(b'i', g.cluster, g.mask),
-        Item::Placed(_) => no_entry(),
-        Item::Nothing => no_entry(),
+        Item::OfDone(g) => entry_of(b'o', g.cluster, g.mask),
+        Item::OfPassed(g) => entry_of(b'p', g.cluster, g.mask),
+        Item::OfRest(g) => entry_of(b'i', g.cluster, g.mask),
+        Item::Placed(_) => entry_of(0, 0, 0),
+        Item::Nothing => entry_of(0, 0, 0),
     }
 }
 
@@ -87,7 +77,7 @@ pub(crate) fn totals(b: Buffer, first: &[u32], second: &[u32]) -> Totals
         groups: 0,
         marked: 0,
     };
-    let mut above = no_entry();
+    let mut above = entry_of(0, 0, 0);
     for k in 0..n {
         let item = lists::items::item(b, first, second, k);
         let line = entry(item);

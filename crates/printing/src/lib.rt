@@ -37,7 +37,7 @@ fn line(b: Buffer, first: &[u32], second: &[u32], k: usize) -> usize
     n
 }
 
-// The line `end`, and the lists. Gives the number of lines.
+// The line `end`, the lists, and the line `sum`. Gives the number of lines.
 pub fn report(b: Buffer, first: &[u32], second: &[u32]) -> usize
     ensures { λ r. ⌜ r ≡ length (reported b (now (first .entry)) (now (second .entry))) ⌝ }
 {

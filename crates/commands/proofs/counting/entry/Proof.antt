@@ -6,32 +6,32 @@ use Rattle.commands.proofs.counting.entry.Tie as tie
 enum-known-item : tie.Need-enum-known-item
 enum-known-item c = search needs
 
-of-glyph-requires : tie.Need-of-glyph-requires
-of-glyph-requires c κs = search needs
+entry-of-requires : tie.Need-entry-of-requires
+entry-of-requires c κs = search needs
 
 enum-known-item-2 : tie.Need-enum-known-item-2
 enum-known-item-2 c = search needs
 
-of-glyph-requires-2 : tie.Need-of-glyph-requires-2
-of-glyph-requires-2 c κs = search needs
+entry-of-requires-2 : tie.Need-entry-of-requires-2
+entry-of-requires-2 c κs = search needs
 
 enum-known-item-3 : tie.Need-enum-known-item-3
 enum-known-item-3 c = search needs
 
-of-glyph-requires-3 : tie.Need-of-glyph-requires-3
-of-glyph-requires-3 c κs = search needs
+entry-of-requires-3 : tie.Need-entry-of-requires-3
+entry-of-requires-3 c κs = search needs
 
 enum-told : tie.Need-enum-told
 enum-told c = search needs
 
-no-entry-requires : tie.Need-no-entry-requires
-no-entry-requires c κs = search needs
+entry-of-requires-4 : tie.Need-entry-of-requires-4
+entry-of-requires-4 c κs = search needs
 
 enum-told-2 : tie.Need-enum-told-2
 enum-told-2 c = search needs
 
-no-entry-requires-2 : tie.Need-no-entry-requires-2
-no-entry-requires-2 c κs = search needs
+entry-of-requires-5 : tie.Need-entry-of-requires-5
+entry-of-requires-5 c κs = search needs
 
 returns : tie.Need-returns
 returns c = search entry-done
@@ -53,15 +53,15 @@ entry-spec =
     tie.close
     (tie.spec
     enum-known-item
-    of-glyph-requires
+    entry-of-requires
     enum-known-item-2
-    of-glyph-requires-2
+    entry-of-requires-2
     enum-known-item-3
-    of-glyph-requires-3
+    entry-of-requires-3
     enum-told
-    no-entry-requires
+    entry-of-requires-4
     enum-told-2
-    no-entry-requires-2
+    entry-of-requires-5
     returns
     returns-2
     returns-3

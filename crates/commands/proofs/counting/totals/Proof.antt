@@ -15,8 +15,8 @@ abbrev μ-loop : tie.MeasureT-loop
 item-count-requires : tie.Need-item-count-requires Inv-loop μ-loop
 item-count-requires c κs = search needs
 
-no-entry-requires : tie.Need-no-entry-requires Inv-loop μ-loop
-no-entry-requires c κs = search needs
+entry-of-requires : tie.Need-entry-of-requires Inv-loop μ-loop
+entry-of-requires c κs = search needs
 
 loop-holds : tie.Need-loop-holds Inv-loop μ-loop
 loop-holds c = search counting-none
@@ -49,7 +49,7 @@ totals-spec =
     Inv-loop
     μ-loop
     item-count-requires
-    no-entry-requires
+    entry-of-requires
     loop-holds
     item-requires
     entry-requires

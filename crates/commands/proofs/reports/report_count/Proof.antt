@@ -11,7 +11,7 @@ item-count-requires : tie.Need-item-count-requires
 item-count-requires c κs = search needs
 
 add-result : tie.Need-add-result
-add-result c = record { fits = search (count-fits, tested) }
+add-result c = record { fits = search (count-fits, tested, needs) }
 
 returns : tie.Need-returns
 returns c = search (lines-counted, tested)
