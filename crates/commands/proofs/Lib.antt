@@ -15,3 +15,4 @@ pub mod Returned
 pub mod ReportLaws
 pub mod FieldLaws
 pub mod TotalLaws
+pub mod SumIsRead

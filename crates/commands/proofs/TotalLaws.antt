@@ -102,18 +102,18 @@ items-read a =
 
 -- ---- sums of totals
 module _ {l g m l′ g′ m′ : ℕ} where
-  same-totals : l ≡ l′ → g ≡ g′ → m ≡ m′ → _≡_ {A = Totals} (record { lines = l; groups = g; marked = m }) (record { lines = l′; groups = g′; marked = m′ })
+  pub same-totals : l ≡ l′ → g ≡ g′ → m ≡ m′ → _≡_ {A = Totals} (record { lines = l; groups = g; marked = m }) (record { lines = l′; groups = g′; marked = m′ })
   same-totals p q r = rw (p, q, r) refl
 
-none-plus : (t : Totals) → plus noTotals t ≡ t
+pub none-plus : (t : Totals) → plus noTotals t ≡ t
 unfolding plus
 none-plus t = same-totals (omega arith) (omega arith) (omega arith)
 
-plus-none : (t : Totals) → plus t noTotals ≡ t
+pub plus-none : (t : Totals) → plus t noTotals ≡ t
 unfolding plus
 plus-none t = same-totals (omega arith) (omega arith) (omega arith)
 
-plus-plus : (t u v : Totals) → plus (plus t u) v ≡ plus t (plus u v)
+pub plus-plus : (t u v : Totals) → plus (plus t u) v ≡ plus t (plus u v)
 unfolding plus
 plus-plus t u v = same-totals (omega arith) (omega arith) (omega arith)
 
@@ -202,6 +202,10 @@ module _ {b : Buffer} {f s : List ℕ} where
         let many : n ≡ length (items (account b f s)) = rw h at en in
         omega (arith, v .fewer, items-most b f s h)
 
+pub lines-read : (a : Account ℕ) → readTotals (linesAbove a) ≡ countedBelow noEntry (entries a)
+unfolding linesAbove readTotals
+lines-read a = below-end a (map itemLine (items a)) ∙ ap (countedBelow noEntry) (items-read a)
+
 -- ---- glyph numbers
 entries-rename : {G H : Type 0} (f : G → H) (a : Account G) → entries (renamed f a) ≡ entries a
 unfolding entries
@@ -213,8 +217,8 @@ sumOf a = sumLine (countedBelow noEntry (entries a))
 
 -- it is the line that is printed, whatever the numbers
 pub last-line-forgets : {H : Type 0} (f : ℕ → H) (a : Account ℕ) → lastLine a ≡ sumOf (renamed f a)
-unfolding lastLine linesAbove readTotals sumOf
-last-line-forgets f a = ap sumLine (below-end a (map itemLine (items a)) ∙ ap (countedBelow noEntry) (items-read a ∙ sym (entries-rename f a)))
+unfolding lastLine sumOf
+last-line-forgets f a = ap sumLine (lines-read a ∙ ap (countedBelow noEntry) (sym (entries-rename f a)))
 
 pub same-last-line : {H : Type 0} (f : ℕ → H) (a b : Account ℕ) → renamed f a ≡ renamed f b → lastLine a ≡ lastLine b
 same-last-line f a b e = last-line-forgets f a ∙ (ap sumOf e ∙ sym (last-line-forgets f b))
