@@ -3,7 +3,7 @@ use mathlib.Core.{Path._≡_, Path.refl, Path.ap, Path._∙_, Bool.Bool, Bool.tr
 use Prim.Native.Nat.{ℕ, zero, suc, _+_, _-_, _*_, _/_, _<_, _^_}
 use native.Mathlib.Omega.{arith}
 use native.Mathlib.Nat.{pow-suc}
-use lib.{Dec.eqb, Dec.ltb}
+use lib.Dec.{ltb}
 use borrow.Author.Tests.{ne-eqb, ltb-true}
 use Rattle.commands.specs.Fields.{readOn, number, onto, parted, fields}
 use Rattle.commands.specs.Lines.{digitOf, digits, decimal, ending}

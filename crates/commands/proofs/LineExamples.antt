@@ -2,7 +2,7 @@
 use mathlib.Core.{Path._≡_, Path.refl, List.List, List.[], List._∷_, List._++_, List.flatMap}
 use Prim.Native.Nat.{ℕ}
 use Rattle.records.specs.{Unreadable, Answers.no, Answers.refusalNumber}
-use Rattle.lists.specs.{Account.Account, Account.freshAccount, Results.Outcome}
+use Rattle.lists.specs.{Account.freshAccount, Results.Outcome}
 use Rattle.commands.specs.Bytes.{runBytes}
 use Rattle.commands.specs.Lines.{answerLine, positionLine, sumLine, lastLine, report}
 use Rattle.commands.specs.declared.Totals.{Totals}
@@ -60,7 +60,7 @@ pushes (c ∷ cs) = 1 ∷ (word 65 ++ (word c ++ pushes cs))
 
 table : List Case
 table =
-    -- example 1
+    -- ★1
     on 0 bytes-1 2 2 0
     -- no command at all; a spoiled buffer, whose `len` is 1; and after `no 6`
     ∷ on 0 [] 0 0 0

@@ -1,16 +1,23 @@
--- The line `end` of a buffer is that of its account; the line `sum`, piece by piece.
-use mathlib.Core.{Path._≡_, Bool.true, List.List, List.[], List._∷_}
+-- The line `end` of a buffer is that of its account; a glyph's line; the line `sum`, piece by piece.
+use mathlib.Core.{Path._≡_, Path.ap, Bool.true, List.List, List.[], List._∷_}
 use Prim.Native.Nat.{ℕ}
+use Rattle.records.specs.{Glyphs.Glyph, Glyphs.change, Glyphs.withPosition, View.seen, View.stored}
+use Rattle.records.proofs.View.{seen-stored}
 use Rattle.lists.specs.{State.account, State.sound}
 use Rattle.lists.specs.declared.Buffer.{Buffer}
 use Rattle.lists.proofs.Counted.{account-limits, account-len, account-idx, account-out-len}
-use Rattle.commands.specs.Lines.{decimal, ending, endLine, endLineOf, sumLine, Wrote}
+use Rattle.commands.specs.Lines.{decimal, ending, endLine, endLineOf, glyphLine, sumLine, Wrote}
 use Rattle.commands.specs.declared.Totals.{Totals}
 use Rattle.commands.proofs.Writes.{and-then}
 
 pub end-of : (b : Buffer) (first second : List ℕ) → sound b first second ≡ true → endLineOf b ≡ endLine (account b first second)
 unfolding endLineOf endLine
 end-of b f s h = rw (account-len b f s h, account-idx b f s h, account-out-len b f s h, account-limits b f s)
+
+-- a line shows no position of its glyph
+pub glyph-line : (kind : ℕ) (g : Glyph ℕ) → glyphLine kind (seen (stored g)) ≡ glyphLine kind g
+unfolding glyphLine change withPosition
+glyph-line kind g = ap (glyphLine kind) (seen-stored g)
 
 pub sum-written : (t : Totals) {l l₁ l₂ l₃ l₄ m : List ℕ} {at k₁ k₂ k₃ k₄ r : ℕ} → Wrote (115 ∷ 117 ∷ 109 ∷ []) l at k₁ l₁
     → Wrote (32 ∷ decimal (t .lines)) l₁ k₁ k₂ l₂

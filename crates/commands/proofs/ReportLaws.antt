@@ -1,32 +1,45 @@
 -- The lines printed at the end of a run: each by its place, and all in document 01's order.
-use mathlib.Core.{Path._≡_, Path.refl, Path.sym, Path.ap, Path.ap₂, Path._∙_, Bool.true, Bool.false, Bool.cond, Bool.false≢true, List.List, List.[], List._∷_, List._++_, List.map, List.flatMap, List.append-nil, List.append-assoc}
+use mathlib.Core.{Path._≡_, Path.refl, Path.sym, Path.ap, Path.ap₂, Path._∙_, Bool.true, Bool.false, Bool.cond, List.List, List.[], List._∷_, List._++_, List.map, List.flatMap, List.append-nil, List.append-assoc}
 use Prim.Native.Nat.{ℕ, zero, suc, _+_, _-_, _<_, _^_}
 use native.Mathlib.Omega.{arith}
 use lib.{ListN.length, ListN.getD, ListN.length-map, ListN.length-append, Seq.getD-at}
-use Rattle.records.specs.{Phase, Plain, Output, Positions, Spoiled, Glyphs.Glyph, Glyphs.change, Glyphs.withPosition, View.seen, View.stored}
-use Rattle.records.proofs.View.{seen-stored}
-use Rattle.lists.specs.{Account.Account, Account.positions, Account.outputPhase, Account.positionsPhase, Account.spoiledPhase, State.account, State.sound, State.goneOf, Items.items}
+use Rattle.records.specs.{Position, View.seen, View.stored}
+use Rattle.records.specs.declared.Glyph.{Glyph as Words}
+use Rattle.lists.specs.{Account.Account, Account.positions, Account.spoiledPhase, State.account, State.sound, Items.items}
 use Rattle.lists.specs.declared.{Buffer.Buffer, Item.Item, Item.the-variants.OfDone, Item.the-variants.OfPassed, Item.the-variants.OfRest, Item.the-variants.Placed, Item.the-variants.Nothing}
-use Rattle.lists.proofs.{Accounts.gone-spoiled, Accounts.sound-held, ItemLaws.items-most, ItemLaws.count-without}
+use Rattle.lists.proofs.ItemLaws.{items-most, items-spoiled}
 use Rattle.commands.specs.Lines.{endLine, endLineOf, glyphLine, positionLine, itemLine, sumLine, linesAbove, lastLine, reportLines, report, reported, lineOf, Prints}
 use Rattle.commands.specs.Totals.{noTotals, countedBelow, readTotals}
 use Rattle.commands.specs.declared.Totals.{Totals}
-use Rattle.commands.proofs.LineLaws.{end-of}
+use Rattle.commands.proofs.LineLaws.{end-of, glyph-line}
 use Rattle.commands.proofs.TotalLaws.{below-end}
 
 -- ---- one line
-pub prints-nothing : {l : List ℕ} {at : ℕ} → Prints [] l at at l
+prints-nothing : {l : List ℕ} {at : ℕ} → Prints [] l at at l
 prints-nothing = record { room = λ k. record { list = refl; next = omega arith }; none = λ k. (refl, refl); short = omega arith }
 
-empty : {A : Type 0} (l : List A) → length l ≡ 0 → l ≡ []
-empty [] e = refl
-empty (x ∷ l) e = absurd (omega (arith, e))
+-- the line of each thing that a buffer shows
+module _ {item : Item} {l m : List ℕ} {at r : ℕ} where
+  module _ {g : Words} where
+    pub prints-done : item ≡ OfDone g → Prints (glyphLine 111 (seen g)) l at r m → Prints (itemLine item) l at r m
+    unfolding itemLine
+    prints-done i p = rw i p
 
-spoiled-clean : (p : Phase) → spoiledPhase p ≡ true → (positionsPhase p ≡ false) × (outputPhase p ≡ false)
-spoiled-clean Plain h = absurd (false≢true h)
-spoiled-clean Output h = absurd (false≢true h)
-spoiled-clean Positions h = absurd (false≢true h)
-spoiled-clean Spoiled h = (refl, refl)
+    pub prints-passed : item ≡ OfPassed g → Prints (glyphLine 112 (seen g)) l at r m → Prints (itemLine item) l at r m
+    unfolding itemLine
+    prints-passed i p = rw i p
+
+    pub prints-rest : item ≡ OfRest g → Prints (glyphLine 105 (seen g)) l at r m → Prints (itemLine item) l at r m
+    unfolding itemLine
+    prints-rest i p = rw i p
+
+  pub prints-placed : {q : Position} → item ≡ Placed q → Prints (positionLine q) l at r m → Prints (itemLine item) l at r m
+  unfolding itemLine
+  prints-placed i p = rw i p
+
+pub prints-no-item : {item : Item} {l : List ℕ} {at : ℕ} → item ≡ Nothing → Prints (itemLine item) l at at l
+unfolding itemLine
+prints-no-item i = rw i prints-nothing
 
 some-place : (k : ℕ) → (k ≡ 0 → ⊥) → k ≡ suc (k - 1)
 some-place k h = omega (arith, h)
@@ -77,11 +90,7 @@ module _ (b : Buffer) (f s : List ℕ) where
     -- "A spoiled buffer prints three zeros."
     pub spoiled-lines : spoiledPhase (b .phase) ≡ true → reported b f s ≡ endLineOf b ∷ sumLine noTotals ∷ []
     unfolding reported reportLines linesAbove lastLine readTotals countedBelow
-    spoiled-lines p =
-        let v = sound-held b f s h in
-        let many : b .«out_len» .0 + (b .len .0 - goneOf b) ≡ length (items (account b f s)) = rw h at (count-without b f s h refl refl (spoiled-clean (b .phase) p .0)) in
-        let none : length (items (account b f s)) ≡ 0 = omega (arith, gone-spoiled b p, v .none (spoiled-clean (b .phase) p .1)) in
-        rw (h, end-of b f s h, empty (items (account b f s)) none) (ap (λ (t : Totals). endLine (account b f s) ∷ sumLine t ∷ []) (below-end (account b f s) []))
+    spoiled-lines p = rw (h, end-of b f s h, items-spoiled b f s h p) (ap (λ (t : Totals). endLine (account b f s) ∷ sumLine t ∷ []) (below-end (account b f s) []))
 
   module _ (h : sound b f s ≡ false) where
     pub prints-none : {l : List ℕ} {at : ℕ} (k : ℕ) → Prints (lineOf k (reported b f s)) l at at l
@@ -102,11 +111,6 @@ module _ (end : List ℕ) where
   unfolding lines flatMap
   lines-of kind line e [] m = refl
   lines-of kind line e (x ∷ l) m = ap₂ (λ (a b : List ℕ). a ++ b) (e x) (lines-of kind line e l m) ∙ sym (append-assoc (line x) (flatMap line l) (lines m))
-
--- a line shows no position of its glyph
-glyph-line : (kind : ℕ) (g : Glyph ℕ) → glyphLine kind (seen (stored g)) ≡ glyphLine kind g
-unfolding glyphLine change withPosition
-glyph-line kind g = ap (glyphLine kind) (seen-stored g)
 
 pub report-is : (a : Account ℕ) → report a ≡ endLine a ++ (flatMap (glyphLine 111) (a .done) ++ (flatMap (glyphLine 112) (a .passed) ++ (flatMap (glyphLine 105) (a .rest) ++ (flatMap positionLine (positions a) ++ lastLine a))))
 unfolding report reportLines linesAbove flatMap items itemLine lines

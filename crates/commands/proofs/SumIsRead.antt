@@ -1,16 +1,16 @@
 -- What a reader counts from the lines of an account is what its three lists hold, counted apart.
-use mathlib.Core.{Path._≡_, Path.refl, Path.sym, Path.ap, Path.ap₂, Path._∙_, Bool.Bool, Bool.cond, List.List, List.[], List._∷_, List._++_, List.map}
-use Prim.Native.Nat.{ℕ, _+_, _%_}
+use mathlib.Core.{Path._≡_, Path.refl, Path.sym, Path.ap, Path._∙_, List.List, List.[], List._∷_, List._++_, List.map}
+use Prim.Native.Nat.{ℕ}
 use native.Mathlib.Omega.{arith}
 use borrow.Author.Tests.{eq-eqb, ne-eqb}
-use lib.{Dec.eqb, ListN.length}
+use lib.ListN.{length}
 use Rattle.records.specs.{Position, Glyphs.Glyph}
 use Rattle.lists.specs.Account.{Account, positions}
 use Rattle.commands.specs.Lines.{linesAbove}
-use Rattle.commands.specs.Totals.{noEntry, noTotals, plus, starts, counted, countedBelow, readTotals, groupsBelow, groupsOf, markedOf, listTotals, totals, Printable, Worded}
-use Rattle.commands.specs.declared.{Entry.Entry, Totals.Totals}
+use Rattle.commands.specs.Totals.{noEntry, noTotals, plus, starts, counted, countedBelow, readTotals, groupsBelow, groupsOf, markedOf, listTotals, totals, Printable, AllPrintable}
+use Rattle.commands.specs.declared.Entry.{Entry}
 use Rattle.commands.proofs.FieldLaws.{number-decimal}
-use Rattle.commands.proofs.TotalLaws.{taken, entries, lines-read, same-totals, none-plus, plus-none, plus-plus}
+use Rattle.commands.proofs.TotalLaws.{taken, entries, lines-read, same-totals, none-plus, plus-none}
 
 -- the entry above what comes next
 lastEntry : Entry → List Entry → Entry
@@ -55,7 +55,7 @@ count-positions [] above = refl
 count-positions (q ∷ ps) above = rw (count-positions ps noEntry) (plus-none noTotals)
 
 -- ---- "Each number equals what a reader counts from the lines above it."
-pub sum-is-read : (a : Account ℕ) → Worded a → totals a ≡ readTotals (linesAbove a)
+pub sum-is-read : (a : Account ℕ) → AllPrintable a → totals a ≡ readTotals (linesAbove a)
 unfolding totals entries
 sum-is-read a w = sym (lines-read a ∙ (rw (taken-words 111 (a .done) (w .done), taken-words 112 (a .passed) (w .passed), taken-words 105 (a .rest) (w .rest)) done-first))
   where

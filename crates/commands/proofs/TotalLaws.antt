@@ -15,6 +15,7 @@ use Rattle.commands.specs.Fields.{number}
 use Rattle.commands.specs.Lines.{decimal, glyphLine, positionLine, countersLine, endLine, itemLine, sumLine, linesAbove, lastLine}
 use Rattle.commands.specs.Totals.{isGlyphKind, noEntry, readLine, noTotals, plus, starts, counted, countedBelow, readTotals}
 use Rattle.commands.specs.declared.{Entry.Entry, Totals.Totals}
+use Rattle.commands.proofs.LineLaws.{glyph-line}
 use Rattle.commands.proofs.FieldLaws.{number-decimal, plain-decimal, fields-line}
 
 -- ---- lines read
@@ -85,8 +86,7 @@ read-of item entry e [] m = refl
 read-of item entry e (x ∷ l) m = ap₂ (λ (y : Entry) (r : List Entry). y ∷ r) (e x) (read-of item entry e l m)
 
 stored-line : (kind : ℕ) → isGlyphKind kind ≡ true → 32 < kind → (g : Glyph ℕ) → readLine (glyphLine kind (seen (stored g))) ≡ taken kind (g .info)
-unfolding taken stored
-stored-line kind h k g = glyph-read kind h k (stored g)
+stored-line kind h k g = ap readLine (glyph-line kind g) ∙ read-glyph kind h k g
 
 items-read : (a : Account ℕ) → map readLine (map itemLine (items a)) ≡ entries a
 unfolding items entries itemLine isGlyphKind

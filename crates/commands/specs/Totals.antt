@@ -73,7 +73,7 @@ module _ {G : Type 0} where
   Printable [] = Unit {0}
   Printable (g ∷ l) = (g .info .cluster < 2 ^ 64) × (g .info .mask < 2 ^ 64) × Printable l
 
-  pub record Worded (a : Account G) : Type 0 where
+  pub record AllPrintable (a : Account G) : Type 0 where
     pub done : Printable (a .done)
     pub passed : Printable (a .passed)
     pub rest : Printable (a .rest)

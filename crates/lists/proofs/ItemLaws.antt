@@ -30,10 +30,20 @@ module _ {A B : Type 0} (f : A → B) where
     in-second : (n : ℕ) → length l ≡ n → getD (map f l ++ m) (n + k) z ≡ getD m k z
     in-second n e = ap (λ (i : ℕ). getD (map f l ++ m) (i + k) z) (sym (length-map l f ∙ e)) ∙ getD-append-add (map f l) m k z
 
+empty : {A : Type 0} (l : List A) → length l ≡ 0 → l ≡ []
+empty [] e = refl
+empty (x ∷ l) e = absurd (omega (arith, e))
+
 slice-at : {A : Type 0} (f t : ℕ) (l : List A) (i : ℕ) (d : A) → f + i < t → getD (slice f t l) i d ≡ getD l (f + i) d
 slice-at f t l i d h = getD-drop f (take t l) i d ∙ getD-take t l (f + i) d h
 
 -- ---- phases
+spoiled-clean : (p : Phase) → spoiledPhase p ≡ true → (positionsPhase p ≡ false) × (outputPhase p ≡ false)
+spoiled-clean Plain h = absurd (false≢true h)
+spoiled-clean Output h = absurd (false≢true h)
+spoiled-clean Positions h = absurd (false≢true h)
+spoiled-clean Spoiled h = (refl, refl)
+
 placed-clean : (p : Phase) → positionsPhase p ≡ true → (outputPhase p ≡ false) × (spoiledPhase p ≡ false) × (p ≡ Positions)
 placed-clean Plain h = absurd (false≢true h)
 placed-clean Output h = absurd (false≢true h)
@@ -193,6 +203,13 @@ module _ (b : Buffer) (f s : List ℕ) where
 
       pub count-without : positionsPhase (b .phase) ≡ false → b .«out_len» .0 + n ≡ cond (sound b f s) (length (items (account b f s))) 0
       count-without p = rw (h, en, e) (sym (on-account b f s (λ a. length (items a) ≡ b .«out_len» .0 + (b .len .0 - goneOf b)) v (λ run other w. count-plain b run other w p)))
+
+    -- a spoiled buffer shows nothing
+    pub items-spoiled : spoiledPhase (b .phase) ≡ true → items (account b f s) ≡ []
+    items-spoiled p =
+        let q = spoiled-clean (b .phase) p in
+        let many : b .«out_len» .0 + (b .len .0 - goneOf b) ≡ length (items (account b f s)) = rw h at (count-without refl refl (q .0)) in
+        empty (items (account b f s)) (omega (arith, gone-spoiled b p, v .none (q .1)))
 
     pub items-most : length (items (account b f s)) ≤ 2097152
     items-most = on-account b f s (λ a. length (items a) ≤ 2097152) v (λ run other w. by-test run other w (positionsPhase (b .phase)) refl)

@@ -3,7 +3,7 @@ use mathlib.Core.{Path._≡_, Path.refl, Path.sym, Path.ap, Path._∙_, Bool.con
 use Prim.Native.Nat.{ℕ, zero, suc, _+_, _-_, _≤_, _<_}
 use native.Mathlib.Omega.{arith}
 use native.Mathlib.Numerals.{add-one}
-use lib.{Dec.eqb, Dec.ltb, ListN.length, ListN.getD, ListN.take, ListN.drop, ListN.set, ListN.length-set, ListN.drop-of-length-le, Seq.drop-cons, Seq.take-suc-set, Seq.take-length, Seq.length-take-le}
+use lib.{Dec.ltb, ListN.length, ListN.getD, ListN.take, ListN.drop, ListN.set, ListN.length-set, ListN.drop-of-length-le, Seq.drop-cons, Seq.take-suc-set, Seq.take-length, Seq.length-take-le}
 use borrow.Author.Tests.{eq-eqb, ne-eqb, lt-ltb, le-ltb}
 use Rattle.commands.specs.Lines.{Prints}
 use Rattle.replay.proofs.Bytes.{printed}

@@ -1,4 +1,4 @@
-use mathlib.Core.Path.{sym, _∙_}
+use Rattle.records.proofs.Tests.{tested}
 use borrow.Author.Tests.{leb-true}
 use Rattle.commands.proofs.Writes.{printed, unprinted}
 use borrow.Author.Needs.{needs}
@@ -9,16 +9,16 @@ has-room-requires : tie.Need-has-room-requires
 has-room-requires c κs = search needs
 
 put-counters-requires : tie.Need-put-counters-requires
-put-counters-requires c κs = leb-true _ _ (sym (c .before .before .has-room .ensures) ∙ c .before .if1 .taken)
+put-counters-requires c κs = search (leb-true, tested)
 
 same-length : tie.Need-same-length
 same-length c = search needs
 
 returns : tie.Need-returns
-returns c = printed (sym (c .before .before .before .before .before .has-room .ensures) ∙ c .before .before .before .before .if1 .taken) (c .before .before .put-counters .ensures)
+returns c = search (printed, tested)
 
 returns-2 : tie.Need-returns-2
-returns-2 c = unprinted (sym (c .before .has-room .ensures) ∙ c .if1 .left)
+returns-2 c = search (unprinted, tested)
 
 pub end-line-spec : {M : Type 1} → statement M
 end-line-spec =

@@ -1,5 +1,4 @@
-use Rattle.commands.specs.Lines.{itemLine}
-use Rattle.commands.proofs.ReportLaws.{prints-nothing}
+use Rattle.commands.proofs.ReportLaws.{prints-done, prints-passed, prints-rest, prints-placed, prints-no-item}
 use borrow.Author.Needs.{needs}
 use Rattle.commands.proofs.reports.item_line.Statement.{statement}
 use Rattle.commands.proofs.reports.item_line.Tie as tie
@@ -35,33 +34,28 @@ same-length : tie.Need-same-length
 same-length c = search needs
 
 returns : tie.Need-returns
-unfolding itemLine
-returns c = rw (c .before .before .before .before .before .item .given .1) (c .before .before .glyph-line .ensures)
+returns c = search prints-done
 
 same-length-2 : tie.Need-same-length-2
 same-length-2 c = search needs
 
 returns-2 : tie.Need-returns-2
-unfolding itemLine
-returns-2 c = rw (c .before .before .before .before .before .item2 .given .1) (c .before .before .glyph-line2 .ensures)
+returns-2 c = search prints-passed
 
 same-length-3 : tie.Need-same-length-3
 same-length-3 c = search needs
 
 returns-3 : tie.Need-returns-3
-unfolding itemLine
-returns-3 c = rw (c .before .before .before .before .before .item3 .given .1) (c .before .before .glyph-line3 .ensures)
+returns-3 c = search prints-rest
 
 same-length-4 : tie.Need-same-length-4
 same-length-4 c = search needs
 
 returns-4 : tie.Need-returns-4
-unfolding itemLine
-returns-4 c = rw (c .before .before .before .before .before .item4 .given .1) (c .before .before .position-line .ensures)
+returns-4 c = search prints-placed
 
 returns-5 : tie.Need-returns-5
-unfolding itemLine
-returns-5 c = rw (c .enum-told .given .1) prints-nothing
+returns-5 c = search prints-no-item
 
 pub item-line-spec : {M : Type 1} → statement M
 item-line-spec =
