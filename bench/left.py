@@ -44,9 +44,12 @@ def functions(root):
 
 
 def symbols(library):
-    """Bytes of each function of ours that has code of its own."""
+    """Bytes of each function that has code of its own; what stands behind a dot in a name is the compiler's."""
     said = subprocess.run(['nm', '-S', library], capture_output=True, text=True, check=True).stdout
-    return {name: int(size, 16) for size, name in re.findall(r'^[0-9a-f]+ ([0-9a-f]+) [tT] (.*)$', said, re.M)}
+    sizes = {}
+    for size, name in re.findall(r'^[0-9a-f]+ ([0-9a-f]+) [tT] ([^.\n]*)', said, re.M):
+        sizes[name] = sizes.get(name, 0) + int(size, 16)
+    return sizes
 
 
 def callers(library):
@@ -54,8 +57,8 @@ def callers(library):
     said = subprocess.run(['objdump', '-dr', '--no-show-raw-insn', library], capture_output=True, text=True, check=True).stdout
     places, inside = {}, ''
     for line in said.splitlines():
-        start = re.match(r'^[0-9a-f]+ <(.*)>:$', line)
-        target = re.search(r'R_X86_64_(?:PLT32|PC32)\s+(?:\.text\.)?(.*?)-0x4$', line)
+        start = re.match(r'^[0-9a-f]+ <([^.]*).*>:$', line)
+        target = re.search(r'R_X86_64_(?:PLT32|PC32)\s+(?:\.text\.)?([^.]*?)(?:\..*)?-0x4$', line)
         if start:
             inside = start.group(1)
         elif target:

@@ -55,7 +55,9 @@ fn run_theirs(capacity: usize, bytes: &[u8]) -> (Theirs, usize) {
             break;
         }
         command.operands.clear();
-        command.operands.extend((0..operands).map(|i| word(at + 1 + 4 * i)));
+        for i in 0..operands {
+            command.operands.push(word(at + 1 + 4 * i));
+        }
         let _ = theirs.call(&command);
         at += 1 + 4 * operands;
         count += 1;
