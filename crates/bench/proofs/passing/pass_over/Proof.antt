@@ -9,9 +9,4 @@ pass-over-spec =
     (tie.spec
     (λ first second n b₀ i₀ b i. i ≤ n)
     (λ first second n b₀ i₀ b i. n - i)
-    (λ c. search needs)
-    (λ c κs. search needs)
-    (λ c. search needs)
-    (λ c. search needs)
-    (λ c. search needs)
-    (λ c. search needs))
+    (search needs) (search needs) (search needs) (search needs) (search needs) (search needs))
