@@ -2,7 +2,7 @@
 use crate::buffer::Buffer;
 use crate::data::Data::{self, *};
 use crate::measure::{Measure, Side};
-use crate::rooms::{capacity, fill_theirs, Room};
+use crate::rooms::{fill_theirs, Room};
 use crate::sides::{ours, theirs, Ours, Theirs};
 
 struct Load {
@@ -91,9 +91,11 @@ impl Load {
     fn run(&self, n: usize, measure: &mut Measure) {
         let data = self.data.make(n);
         let mut buffer = Buffer::new();
-        let mut room = Room::new(capacity(n));
+        // glyphs for which there is room, on both sides
+        let capacity = 2 * n + 32;
+        let mut room = Room::new(capacity);
         for _ in 0..measure.runs(self.slow) {
-            fill_theirs(&mut buffer, &data, self.level, self.wants);
+            fill_theirs(&mut buffer, &data, capacity, self.level, self.wants);
             measure.run(Side::Theirs, self.name, || (self.theirs)(&mut buffer, n));
             room.fill(&data);
             let Room { first, second, told } = &mut room;

@@ -5,11 +5,6 @@ use crate::BufferFlags;
 /// Words of a glyph, and of a position.
 const WORDS: usize = 5;
 
-/// Glyphs for which there is room, on both sides.
-pub fn capacity(n: usize) -> usize {
-    2 * n + 32
-}
-
 /// The two slices, and the numbers that a load tells: idx, len, out_len, phase, max_ops, successful, swapped, separate output; commands.
 pub struct Room {
     pub first: Vec<u32>,
@@ -61,8 +56,7 @@ fn position(p: &GlyphPosition) -> [u32; WORDS] {
 }
 
 /// harfrust's side: the same glyphs, and room that is made before anything is measured.
-pub fn fill_theirs(b: &mut Buffer, data: &[GlyphInfo], level: u32, wants: u32) {
-    let n = data.len();
+pub fn fill_theirs(b: &mut Buffer, data: &[GlyphInfo], capacity: usize, level: u32, wants: u32) {
     b.clear();
     b.max_ops = 536870911;
     b.max_len = 1073741823;
@@ -74,10 +68,10 @@ pub fn fill_theirs(b: &mut Buffer, data: &[GlyphInfo], level: u32, wants: u32) {
     if wants & 2 != 0 {
         b.flags = b.flags | BufferFlags::PRODUCE_SAFE_TO_INSERT_TATWEEL;
     }
-    b.info.reserve(capacity(n));
-    b.pos.reserve(capacity(n));
+    b.info.reserve(capacity);
+    b.pos.reserve(capacity);
     b.info.extend_from_slice(data);
-    b.pos.resize(n, GlyphPosition::default());
-    b.len = n;
+    b.pos.resize(data.len(), GlyphPosition::default());
+    b.len = data.len();
     b.scratch_flags |= buffer::HB_BUFFER_SCRATCH_FLAG_HAS_CONTINUATIONS;
 }
