@@ -4,6 +4,7 @@ import os
 import re
 import subprocess
 
+CRATES = ['records', 'lists', 'edits']
 PATH = r'[a-z_][a-z_0-9]*(?:::[a-z_][a-z_0-9]*)*'
 
 
@@ -26,18 +27,19 @@ def resolved(call, crate, module, known):
     """A path of the source as the library's symbols have it."""
     parts = call.split('::')
     if len(parts) == 1:
-        return f'{crate}::{module}::{call}'
+        return '::'.join(known.get(call, [crate, module, call]))
     return '::'.join(known.get(parts[0], [crate, parts[0]] if len(parts) == 2 else [parts[0]]) + parts[1:])
 
 
 def functions(root):
-    """The functions of the crates below the loads, by name."""
+    """The functions of the exported calls' crates, by name."""
     found = {}
-    for path in glob.glob(os.path.join(root, 'crates', '*', 'src', '*.rt')):
+    paths = [path for crate in CRATES for path in glob.glob(os.path.join(root, 'crates', crate, 'src', '*.rt'))]
+    for path in paths:
         crate, module = path.split(os.sep)[-3], os.path.basename(path)[:-3]
         text = open(path).read()
         known = {use.split('::')[-1]: [crate if part == 'super' else part for part in use.split('::')] for use in re.findall(rf'^use ({PATH});', text, re.M)}
-        for head, name, body in re.findall(r'^((?:pub )?fn (\w+)\(.*?)\{\n(.*?)^\}', text, re.M | re.S):
+        for head, name, body in re.findall(r'^((?:pub(?:\(crate\))? )?fn (\w+)\(.*?)\{\n(.*?)^\}', text, re.M | re.S):
             full = f'{crate}::{module}::{name}'
             found[full] = Function(full, head, body, known)
     return found
@@ -77,17 +79,24 @@ def stays(name, known, kept, seen):
     return out
 
 
+def tell(name, kept, places):
+    at = places.get(name, [])
+    print(f'{name:50}{kept[name]:6} bytes; calls of it: {len(at)}, in {len(set(at))} functions')
+
+
 def report(root, library):
     known, kept, places = functions(root), symbols(library), callers(library)
     calls = sorted(name for name in known if known[name].exported)
     outside = [name for name in calls if name in kept]
     print(f'\nExported calls left out of line: {len(outside)} of {len(calls)}\n')
     for name in outside:
-        at = places.get(name, [])
-        print(f'{name:50}{kept[name]:6} bytes, called at {len(at)} places in {len(set(at))} functions')
+        tell(name, kept, places)
     print('\nInlined, and what below them is called out of line:\n')
     for name in calls:
         if name not in kept:
             print(f'{name:50}{", ".join(sorted(stays(name, known, kept, {name}))) or "nothing"}')
-    below = [name for name in kept if name in known and not known[name].exported]
-    print(f'\nFunctions below the exported calls left out of line: {len(below)}, {sum(kept[name] for name in below):,} bytes\n')
+    below = sorted(name for name in kept if name in known and not known[name].exported)
+    print(f'\nFunctions below the exported calls left out of line: {len(below)}\n')
+    for name in below:
+        tell(name, kept, places)
+    print()
