@@ -3,7 +3,7 @@ use mathlib.Core.{Path._≡_, Path.refl, Path.sym, Path.ap, Path._∙_, Path.sub
 use Prim.Native.Nat.{ℕ, _+_, _-_, _≤_, _<_}
 use native.Mathlib.Decide.{decLe}
 use native.Mathlib.Omega.{arith}
-use borrow.Author.Tests.{le-leb, lt-leb, lt-ltb, leb-true, eqb-true, eq-eqb}
+use borrow.Author.Tests.{le-leb, lt-leb, lt-ltb, leb-true, eqb-true, eq-eqb, ne-eqb}
 use lib.{Dec.eqb, Dec.leb, Dec.ltb, ListN.length, ListN.take, Seq.length-slice, Seq.length-take-le, Seq.take-nil, Seq.drop-nil}
 use Rattle.records.specs.{Phase, Plain, Output, Positions, Spoiled, OverCapacity, Limits, Counters.capacityOf, Counters.rightlyLent, View.glyphs, View.placements}
 use Rattle.records.proofs.View.{length-glyphs, glyphs-same, placements-glyphs, length-paired, lent-same, lent-whole, lent-most, whole-same}
@@ -11,7 +11,7 @@ use Rattle.lists.specs.declared.{Buffer.Buffer, Room.Room, Room.the-vari
 use Rattle.lists.specs.Account.{Account, outputPhase, positionsPhase, spoiledPhase, hasOutput, hasPositions, isSpoiled, len, idx, outLen, limiting, withLimits, readLevel}
 use Rattle.lists.specs.State.{shown, goneOf, stateOf, accountOf, inOrder, sound, Held, roomFor}
 use Rattle.lists.specs.Results.{Result, refused, needing}
-use Rattle.lists.specs.States.{withLimitsOf}
+use Rattle.lists.specs.States.{withLimitsOf, mostOutput}
 
 -- ---- the three answers of a size are three
 RoomCode : Room → Type 0
@@ -161,6 +161,19 @@ module _ (b : Buffer) (run other : List ℕ) where
         by-test false h = omega (arith, passed-of h, rest-of h, gone-in h)
 
 -- ---- refusal 1, as the code tests it
+and-none : (x : Bool) → x && false ≡ false
+and-none true = refl
+and-none false = refl
+
+and-all : (x : Bool) → x && true ≡ x
+and-all true = refl
+and-all false = refl
+
+and-implied : (x y : Bool) → (y ≡ true → x ≡ true) → x && y ≡ y
+and-implied true y h = refl
+and-implied false true h = h refl
+and-implied false false h = refl
+
 module _ (b : Buffer) (capacity : ℕ) where
   pub order-idx : b .len .0 < b .idx .0 → false ≡ inOrder b capacity
   unfolding inOrder
@@ -172,27 +185,23 @@ module _ (b : Buffer) (capacity : ℕ) where
     order-len h = rw (le-leb _ _ i, lt-leb _ _ h)
 
     module _ (l : b .len .0 ≤ b .limits .allocated) where
-      pub order-out : b .limits .allocated < b .«out_len» .0 → false ≡ inOrder b capacity
+      pub order-all : capacity < b .limits .allocated → false ≡ inOrder b capacity
       unfolding inOrder
-      order-out h = rw (le-leb _ _ i, le-leb _ _ l, lt-leb _ _ h)
+      order-all h = rw (le-leb _ _ i, le-leb _ _ l, lt-leb _ _ h) (sym (and-none (leb (b .«out_len» .0) (b .limits .allocated))))
 
-      module _ (o : b .«out_len» .0 ≤ b .limits .allocated) where
-        pub order-all : capacity < b .limits .allocated → false ≡ inOrder b capacity
-        unfolding inOrder
-        order-all h = rw (le-leb _ _ i, le-leb _ _ l, le-leb _ _ o, lt-leb _ _ h)
-
-        module _ (a : b .limits .allocated ≤ capacity) where
-          pub order-apart : outputPhase (b .phase) ≡ true → b .«have_separate_output» ≡ true → true ≡ inOrder b capacity
-          unfolding inOrder
-          order-apart p q = rw (le-leb _ _ i, le-leb _ _ l, le-leb _ _ o, le-leb _ _ a, p, q)
-
-          pub order-within : outputPhase (b .phase) ≡ true → b .«have_separate_output» ≡ false → leb (b .«out_len» .0) (b .idx .0) ≡ inOrder b capacity
-          unfolding inOrder
-          order-within p q = rw (le-leb _ _ i, le-leb _ _ l, le-leb _ _ o, le-leb _ _ a, p, q)
-
-          pub order-without : outputPhase (b .phase) ≡ false → eqb (b .«out_len» .0) 0 ≡ inOrder b capacity
-          unfolding inOrder
-          order-without p = rw (le-leb _ _ i, le-leb _ _ l, le-leb _ _ o, le-leb _ _ a, p)
+      -- how much output there can be
+      pub order-most : b .limits .allocated ≤ capacity → leb (b .«out_len» .0) (mostOutput b) ≡ inOrder b capacity
+      unfolding inOrder mostOutput
+      order-most a = rw (le-leb _ _ i, le-leb _ _ l, le-leb _ _ a) (by-phase (outputPhase (b .phase)) (b .«have_separate_output»))
+        where
+          by-phase : (p k : Bool) → leb (b .«out_len» .0) (cond p (cond k (b .limits .allocated) (b .idx .0)) 0) ≡ leb (b .«out_len» .0) (b .limits .allocated) && cond p (k || leb (b .«out_len» .0) (b .idx .0)) (eqb (b .«out_len» .0) 0)
+          by-phase true true = sym (and-all (leb (b .«out_len» .0) (b .limits .allocated)))
+          by-phase true false = sym (and-implied (leb (b .«out_len» .0) (b .limits .allocated)) (leb (b .«out_len» .0) (b .idx .0)) (λ h. let q : b .«out_len» .0 ≤ b .idx .0 = leb-true (b .«out_len» .0) (b .idx .0) h in le-leb (b .«out_len» .0) (b .limits .allocated) (omega arith)))
+          by-phase false k = at-none (decLe (b .«out_len» .0) 0)
+            where
+              at-none : Dec (b .«out_len» .0 ≤ 0) → leb (b .«out_len» .0) 0 ≡ leb (b .«out_len» .0) (b .limits .allocated) && eqb (b .«out_len» .0) 0
+              at-none (yes h) = rw (le-leb _ _ h, eq-eqb (b .«out_len» .0) 0 (omega arith), le-leb (b .«out_len» .0) (b .limits .allocated) (omega arith))
+              at-none (no h) = rw (lt-leb (b .«out_len» .0) 0 (omega arith), ne-eqb (b .«out_len» .0) 0 (λ e. h (omega arith))) (sym (and-none (leb (b .«out_len» .0) (b .limits .allocated))))
 
 module _ (b : Buffer) (f s : List ℕ) where
   pub sound-is : rightlyLent (length f) (length s) ≡ true → sound b f s ≡ inOrder b (capacityOf (length f))

@@ -34,6 +34,10 @@ module _ {A : Type 0} where
   pub copied-self : (d : List A) (at n : ℕ) → copied d at d at n ≡ d
   copied-self d at n = ap (λ (l : List A). l ++ drop (at + n) d) (sym (take-add at n d)) ∙ take-append-drop (at + n) d
 
+  -- nor does a copy of nothing
+  pub copied-nothing : (d s : List A) (to from : ℕ) → copied d to s from 0 ≡ d
+  copied-nothing d s to from = copied-self d to 0
+
   pub drop-take : (k m : ℕ) (l : List A) → drop k (take m l) ≡ take (m - k) (drop k l)
   drop-take zero m l = rw (sub-zero m)
   drop-take (suc k) zero l = rw (zero-sub (suc k))

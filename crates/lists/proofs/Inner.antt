@@ -12,11 +12,42 @@ use Rattle.lists.specs.Results.{Result, refused, accepted, answered, out
 use Rattle.lists.specs.State.{shown, goneOf, stateOf, accountOf, Held, roomFor}
 use Rattle.lists.specs.States.{reply, withLimitsOf, atPlaces, swappedBuffer, spoiledBuffer}
 use Rattle.lists.specs.Contract.{isNo, exchanged, accountIn, MeetsIn, Moves}
-use Rattle.lists.specs.Moving.{Forwardable, Shiftable, Returnable, SyncOutput, Syncable, NextOutput, BackOutput, BackOver}
 use Rattle.lists.specs.Cursor.{moved, back, cursorAt, growing, swapped, spoiling, positioned, clearPositions, nextGlyphs, sync, paysFor, forward, goesBack, backward, moveTo}
 use Rattle.lists.proofs.Accounts.{output-clean, output-of, spoiled-of, limits-of, out-of, rest-of, idx-of, len-of, held-lengths, needing-fits, needing-gives-up, needing-over, fits-within}
+use Rattle.lists.proofs.Moving.{Forwardable, Shiftable, Returnable}
 use Rattle.lists.proofs.Simple.{cursor-of}
 use Rattle.lists.proofs.Calls.{in-refused, in-accepted, in-answered, in-call}
+
+-- a buffer with output
+pub record SyncOutput (b : Buffer) (run other : List ℕ) : Type 0 where
+  pub held : Held b run other
+  pub output : outputPhase (b .phase) ≡ true
+
+-- and that has not given up
+pub record Syncable (b : Buffer) (run other : List ℕ) : Type 0 where
+  pub held : Held b run other
+  pub output : outputPhase (b .phase) ≡ true
+  pub successful : b .limits .successful ≡ true
+
+-- a buffer with output and n glyphs of the input before it
+pub record NextOutput (b : Buffer) (n : ℕ) (run other : List ℕ) : Type 0 where
+  pub held : Held b run other
+  pub output : outputPhase (b .phase) ≡ true
+  pub in-len : b .idx .0 + n ≤ b .len .0
+
+-- and n glyphs of the output behind it
+pub record BackOutput (b : Buffer) (n : ℕ) (run other : List ℕ) : Type 0 where
+  pub held : Held b run other
+  pub output : outputPhase (b .phase) ≡ true
+  pub in-out : n ≤ b .«out_len» .0
+
+-- more of them than the input has room for
+pub record BackOver (b : Buffer) (n : ℕ) (run other : List ℕ) : Type 0 where
+  pub held : Held b run other
+  pub output : outputPhase (b .phase) ≡ true
+  pub in-out : n ≤ b .«out_len» .0
+  pub past : b .idx .0 < n
+
 
 -- ---- sizes and limits
 -- what the code says of the room for size n: the capacity m that it asked with, and the answer
@@ -76,15 +107,15 @@ module _ (b : Buffer) (run other : List ℕ) where
 
   -- "needs size", by the limits of the buffer
   module _ (capacity n : ℕ) (x y : Result ℕ) where
-    room-fits : roomFor capacity n (b .limits) ≡ Fits → needing capacity n (accountOf b run other) x y ≡ x
+    pub room-fits : roomFor capacity n (b .limits) ≡ Fits → needing capacity n (accountOf b run other) x y ≡ x
     unfolding accountOf stateOf
     room-fits h = needing-fits capacity n (accountOf b run other) x y h
 
-    room-gives-up : roomFor capacity n (b .limits) ≡ GivesUp → needing capacity n (accountOf b run other) x y ≡ y
+    pub room-gives-up : roomFor capacity n (b .limits) ≡ GivesUp → needing capacity n (accountOf b run other) x y ≡ y
     unfolding accountOf stateOf
     room-gives-up h = needing-gives-up capacity n (accountOf b run other) x y h
 
-    room-over : roomFor capacity n (b .limits) ≡ Over → needing capacity n (accountOf b run other) x y ≡ refused OverCapacity
+    pub room-over : roomFor capacity n (b .limits) ≡ Over → needing capacity n (accountOf b run other) x y ≡ refused OverCapacity
     unfolding accountOf stateOf
     room-over h = needing-over capacity n (accountOf b run other) x y h
 
@@ -128,10 +159,10 @@ places-side i l k b = refl
 
 -- ---- how many glyphs stand before the cursor
 module _ (b : Buffer) (run other : List ℕ) (v : Held b run other) (h : spoiledPhase (b .phase) ≡ false) (n : ℕ) where
-  few-left : b .len .0 - b .idx .0 < n → ltb (length ((accountOf b run other) .rest)) n ≡ true
+  pub few-left : b .len .0 - b .idx .0 < n → ltb (length ((accountOf b run other) .rest)) n ≡ true
   few-left k = let e : length ((accountOf b run other) .rest) ≡ b .len .0 - b .idx .0 = rest-of b run other v h in lt-ltb (length ((accountOf b run other) .rest)) n (omega arith)
 
-  enough-left : n ≤ b .len .0 - b .idx .0 → ltb (length ((accountOf b run other) .rest)) n ≡ false
+  pub enough-left : n ≤ b .len .0 - b .idx .0 → ltb (length ((accountOf b run other) .rest)) n ≡ false
   enough-left k = let e : length ((accountOf b run other) .rest) ≡ b .len .0 - b .idx .0 = rest-of b run other v h in le-ltb (length ((accountOf b run other) .rest)) n (omega arith)
 
 -- ---- clear_positions
@@ -198,7 +229,7 @@ module _ {b : Buffer} {run other : List ℕ} {r : Reply} (n : ℕ) (v : Held b r
         (er ∙ ap (λ (x : Buffer). reply x Done) eb)
 
 module _ {b : Buffer} {n : ℕ} {run other : List ℕ} (v : NextOutput b n run other) where
-  next-room : nextGlyphs (capacityOf (length run)) n (accountOf b run other) ≡ needing (capacityOf (length run)) (b .«out_len» .0 + n) (accountOf b run other) (accepted (moved n (sized (b .«out_len» .0 + n) (accountOf b run other)))) (accepted (failing (accountOf b run other)))
+  pub next-room : nextGlyphs (capacityOf (length run)) n (accountOf b run other) ≡ needing (capacityOf (length run)) (b .«out_len» .0 + n) (accountOf b run other) (accepted (moved n (sized (b .«out_len» .0 + n) (accountOf b run other)))) (accepted (failing (accountOf b run other)))
   next-room =
       let h : spoiledPhase (b .phase) ≡ false = output-clean (b .phase) (v .output) in
       next-needs _ n _ (spoiled-of b run other ∙ h) (b .«out_len» .0 + n) (ap (λ (j : ℕ). j + n) (out-of b run other (v .held))) (enough-left b run other (v .held) h n (omega (arith, v .in-len))) (output-of b run other ∙ v .output)
@@ -563,15 +594,12 @@ module _ {b : Buffer} {n : ℕ} {run other : List ℕ} (v : BackOver b n run oth
     unfolding withLimitsOf
     shiftable l q = record { held = held-limits b run other (v .held) l (q .grows) (q .within); output = v .output; in-size = omega (arith, q .room, v .held .idx-in, v .past) }
 
-    -- whichever the other slice is
-    pub over-shiftable : (other′ : List ℕ) → length run ≡ length other′ → Shiftable g (n - b .idx .0) run other′
-    over-shiftable other′ e =
-        let q : Shiftable g (n - b .idx .0) run other = rw (eg, el) (shiftable _ over-roomy) in
-        record { held = held-lengths g run other run other′ refl (sym e ∙ v .held .same) (q .held); output = q .output; in-size = q .in-size }
+    pub over-shiftable : Shiftable g (n - b .idx .0) run other
+    over-shiftable = rw (eg, el) (shiftable _ over-roomy)
 
-    module _ {f : Buffer} {run′ : List ℕ} (e : length run′ ≡ length run) (w : (x : List ℕ) → length run ≡ length x → Moves (growing (n - b .idx .0)) g run x f run′ x) where
+    module _ {f : Buffer} {run′ : List ℕ} (e : length run′ ≡ length run) (w : Moves (growing (n - b .idx .0)) g run other f run′ other) where
       over-shifts : Moves (growing (n - b .idx .0)) (withLimitsOf (costs left-of (grown over-size (b .limits))) b) run other f run′ other
-      over-shifts = rw (eg, el) at (w other (v .held .same))
+      over-shifts = rw (eg, el) at w
 
       over-output : outputPhase ((withLimitsOf (costs left-of (grown over-size (b .limits))) b) .phase) ≡ true
       unfolding withLimitsOf
@@ -586,10 +614,10 @@ module _ {b : Buffer} {n : ℕ} {run other : List ℕ} (v : BackOver b n run oth
           shifted-meets (n - b .idx .0) over-held over-output e over-shifts n (limits-side (costs left-of (grown over-size (b .limits))) b)
           (over-room ∙ (room-fits b run other _ _ _ _ h ∙ (spent-holds b run other left-of _ over-size k ∙ ap (λ (a : Account ℕ). goesBack n (growing (n - b .idx .0) a)) (sym (paid-of b run other over-size left-of))))) m
 
-pub back-within : {b : Buffer} {n : ℕ} {run other run′ other′ : List ℕ} {r : Reply} → BackOutput b n run other → n ≤ b .idx .0 → MeetsIn (λ capacity a. goesBack n a) b run other r run′ other′ → MeetsIn (λ capacity a. backward capacity n a) b run other r run′ other′
-back-within {b} {n} {run} {other} v h m =
+pub back-within : {b : Buffer} {n : ℕ} {run other run′ other′ : List ℕ} {r : Reply} → Returnable b n run other → MeetsIn (λ capacity a. goesBack n a) b run other r run′ other′ → MeetsIn (λ capacity a. backward capacity n a) b run other r run′ other′
+back-within {b} {n} {run} {other} v m =
     let s : spoiledPhase (b .phase) ≡ false = output-clean (b .phase) (v .output) in
-    in-call (backward-goes _ n _ (b .len .0) (b .idx .0) (len-of b run other (v .held) s) (idx-of b run other (v .held) s) (le-ltb _ _ h)) m
+    in-call (backward-goes _ n _ (b .len .0) (b .idx .0) (len-of b run other (v .held) s) (idx-of b run other (v .held) s) (le-ltb _ _ (v .in-idx))) m
 
 -- ---- move_to
 module _ (capacity i : ℕ) (a : Account ℕ) where
@@ -675,11 +703,11 @@ module _ {b : Buffer} {run other : List ℕ} (i : ℕ) (v : SyncOutput b run oth
     move-out-failed s er = in-answered b refl refl refl (v .held) 0 (move-failed _ i _ clean-of (output-of b run other ∙ v .output) within-of (successful-of s)) er
 
     module _ (s : b .limits .successful ≡ true) where
-      pub move-out-forward : {r : Reply} {run′ other′ : List ℕ} → b .«out_len» .0 < i → MeetsIn (λ capacity a. forward capacity (i - b .«out_len» .0) a) b run other r run′ other′ → MeetsIn (λ capacity a. moveTo capacity i a) b run other r run′ other′
-      move-out-forward p m = in-call (move-forward _ i _ clean-of (output-of b run other ∙ v .output) within-of (successful-of s) _ (out-of b run other (v .held)) (lt-ltb _ _ p)) m
+      pub move-is-forward : b .«out_len» .0 < i → moveTo (capacityOf (length run)) i (accountOf b run other) ≡ forward (capacityOf (length run)) (i - b .«out_len» .0) (accountOf b run other)
+      move-is-forward p = move-forward _ i _ clean-of (output-of b run other ∙ v .output) within-of (successful-of s) _ (out-of b run other (v .held)) (lt-ltb _ _ p)
 
-      pub move-out-backward : {r : Reply} {run′ other′ : List ℕ} → i < b .«out_len» .0 → MeetsIn (λ capacity a. backward capacity (b .«out_len» .0 - i) a) b run other r run′ other′ → MeetsIn (λ capacity a. moveTo capacity i a) b run other r run′ other′
-      move-out-backward p m = in-call (move-backward _ i _ clean-of (output-of b run other ∙ v .output) within-of (successful-of s) _ (out-of b run other (v .held)) (le-ltb (b .«out_len» .0) i (omega arith)) (lt-ltb _ _ p)) m
+      pub move-is-backward : i < b .«out_len» .0 → moveTo (capacityOf (length run)) i (accountOf b run other) ≡ backward (capacityOf (length run)) (b .«out_len» .0 - i) (accountOf b run other)
+      move-is-backward p = move-backward _ i _ clean-of (output-of b run other ∙ v .output) within-of (successful-of s) _ (out-of b run other (v .held)) (le-ltb (b .«out_len» .0) i (omega arith)) (lt-ltb _ _ p)
 
       pub move-out-stays : {r : Reply} → i ≤ b .«out_len» .0 → b .«out_len» .0 ≤ i → r ≡ reply b (Value 1) → MeetsIn (λ capacity a. moveTo capacity i a) b run other r run other
       move-out-stays p q er = in-answered b refl refl refl (v .held) 1 (move-stays _ i _ clean-of (output-of b run other ∙ v .output) within-of (successful-of s) _ (out-of b run other (v .held)) (le-ltb _ _ p) (le-ltb _ _ q)) er

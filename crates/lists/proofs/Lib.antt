@@ -4,6 +4,8 @@ pub mod Chains
 pub mod Copying
 pub mod Counted
 pub mod Editing
+pub mod CursorCalls
+pub mod Decisions
 pub mod Examples
 pub mod Executable
 pub mod Filling
@@ -12,8 +14,10 @@ pub mod Inner
 pub mod Insertions
 pub mod ItemLaws
 pub mod Joining
+pub mod MoveCalls
 pub mod Moving
 pub mod Outputs
+pub mod PhaseCalls
 pub mod Renaming
 pub mod Runs
 pub mod Simple

@@ -1,6 +1,6 @@
 -- Moves of glyphs between the input and the output: what they leave in the slices, and what that is on the account.
 use mathlib.Core.{Path._≡_, Path.refl, Path.sym, Path.ap, Path._∙_, Bool.Bool, Bool.true, Bool.false, Bool.cond, Bool.false≢true, List.List, List.[], List._++_, List.map, List.append-assoc}
-use Prim.Native.Nat.{ℕ, _+_, _-_, _≤_}
+use Prim.Native.Nat.{ℕ, _+_, _-_, _≤_, _<_}
 use native.Mathlib.Omega.{arith}
 use lib.ListN.{length, take, drop, replicate, length-replicate}
 use lib.Seq.{slice, drop-drop, take-take, take-add, take-append-le, drop-append-add, drop-at, length-take-le}
@@ -11,39 +11,74 @@ use Rattle.lists.specs.declared.{Buffer.Buffer}
 use Rattle.lists.specs.Account.{outputPhase, spoiledPhase, withGone, inPhase, readLevel}
 use Rattle.lists.specs.Contract.{Moves}
 use Rattle.lists.specs.Copied.{copied}
+use Rattle.lists.specs.Filled.{filled}
 use Rattle.lists.specs.Cursor.{moved, growing, back, positioned, withoutPositions}
-use Rattle.lists.specs.Moving.{Forwardable, Shiftable, Returnable, Placeable}
+use Rattle.lists.specs.Moving.{Carried, Zeroed}
 use Rattle.lists.specs.State.{shown, goneOf, stateOf, accountOf, Held}
 use Rattle.lists.specs.States.{atPlaces, positionedBuffer}
 use Rattle.lists.proofs.Accounts.{out-fits}
 use Rattle.lists.proofs.Outputs.{goneIn, gone-plain, output-cong, output-places, output-account, beyond}
 use Rattle.lists.proofs.Accounts.{places-in}
+use Rattle.lists.proofs.Filling.{filled-front}
 use Rattle.lists.proofs.Copying.{take-copied, drop-copied, copied-self, drop-take, take-range, range-same}
 
--- ---- carrying n elements, to the other list or within the run
+-- n glyphs can go from the input to the output
+pub record Forwardable (b : Buffer) (n : ℕ) (run other : List ℕ) : Type 0 where
+  pub held : Held b run other
+  pub output : outputPhase (b .phase) ≡ true
+  pub in-len : b .idx .0 + n ≤ b .len .0
+  pub in-size : b .«out_len» .0 + n ≤ b .limits .allocated
+
+-- the input can go up by n
+pub record Shiftable (b : Buffer) (n : ℕ) (run other : List ℕ) : Type 0 where
+  pub held : Held b run other
+  pub output : outputPhase (b .phase) ≡ true
+  pub in-size : b .len .0 + n ≤ b .limits .allocated
+
+-- n glyphs can go from the output back before the cursor
+pub record Returnable (b : Buffer) (n : ℕ) (run other : List ℕ) : Type 0 where
+  pub held : Held b run other
+  pub output : outputPhase (b .phase) ≡ true
+  pub in-idx : n ≤ b .idx .0
+  pub in-out : n ≤ b .«out_len» .0
+
+-- a buffer without output, and not spoiled
+pub record Placeable (b : Buffer) (run other : List ℕ) : Type 0 where
+  pub held : Held b run other
+  pub plain : outputPhase (b .phase) ≡ false
+  pub clean : spoiledPhase (b .phase) ≡ false
+
+-- ---- carrying n glyphs, to the other slice or within the run
+module _ {separate : Bool} {from to n : ℕ} {run other : List ℕ} where
+  pub carried-apart : {other′ : List ℕ} → separate ≡ true → glyphs other′ ≡ copied (glyphs other) to (glyphs run) from n → Carried separate from to n run other run other′
+  carried-apart h e = record { run-is = rw h; other-is = rw h e }
+
+  pub carried-none : separate ≡ false → from ≡ to → Carried separate from to n run other run other
+  carried-none h e = record { run-is = rw (h, e) (sym (copied-self (glyphs run) to n)); other-is = rw h }
+
+  pub carried-within : {run′ : List ℕ} → separate ≡ false → glyphs run′ ≡ copied (glyphs run) to (glyphs run) from n → Carried separate from to n run other run′ other
+  carried-within h e = record { run-is = rw h e; other-is = rw h }
+
+-- and back
+module _ {A : Type 0} (run other : List A) (separate : Bool) (from to n : ℕ) where
+  pub returned-apart : {run′ : List A} → separate ≡ true → run′ ≡ copied run to other from n → run′ ≡ copied run to (cond separate other run) from n
+  returned-apart h e = rw h e
+
+  pub returned-none : separate ≡ false → from ≡ to → run ≡ copied run to (cond separate other run) from n
+  returned-none h e = rw (h, e) (sym (copied-self run to n))
+
+  pub returned-within : {run′ : List A} → separate ≡ false → run′ ≡ copied run to run from n → run′ ≡ copied run to (cond separate other run) from n
+  returned-within h e = rw h e
+
+-- where nothing has to go up
+pub shifted-none : {A : Type 0} (l : List A) (from to n : ℕ) → from ≡ to → l ≡ copied l to l from n
+shifted-none l from to n e = rw e (sym (copied-self l to n))
+
+-- positions, all zero, in the slice that does not hold the run
+pub zeroed : {n : ℕ} {run other other′ : List ℕ} → placements other′ ≡ filled zeroPosition 0 n (placements other) → Zeroed n run other run other′
+zeroed {n} e = record { run-is = refl; other-is = e ∙ filled-front zeroPosition n _ }
+
 module _ {A : Type 0} where
-  pub carried-apart : (run other : List A) (s : Bool) (from to n : ℕ) (other′ : List A) → s ≡ true → other′ ≡ copied other to run from n
-      → (run ≡ cond s run (copied run to run from n)) × (other′ ≡ cond s (copied other to run from n) other)
-  carried-apart run other s from to n other′ h e = (rw h, rw h e)
-
-  pub carried-none : (run other : List A) (s : Bool) (from to n : ℕ) → s ≡ false → from ≡ to
-      → (run ≡ cond s run (copied run to run from n)) × (other ≡ cond s (copied other to run from n) other)
-  carried-none run other s from to n h e = (rw (h, e) (sym (copied-self run to n)), rw h)
-
-  pub carried-within : (run other : List A) (s : Bool) (from to n : ℕ) (run′ : List A) → s ≡ false → run′ ≡ copied run to run from n
-      → (run′ ≡ cond s run (copied run to run from n)) × (other ≡ cond s (copied other to run from n) other)
-  carried-within run other s from to n run′ h e = (rw h e, rw h)
-
-  -- and back
-  pub returned-apart : (run other : List A) (s : Bool) (from to n : ℕ) (run′ : List A) → s ≡ true → run′ ≡ copied run to other from n → run′ ≡ copied run to (cond s other run) from n
-  returned-apart run other s from to n run′ h e = rw h e
-
-  pub returned-none : (run other : List A) (s : Bool) (from to n : ℕ) → s ≡ false → from ≡ to → run ≡ copied run to (cond s other run) from n
-  returned-none run other s from to n h e = rw (h, e) (sym (copied-self run to n))
-
-  pub returned-within : (run other : List A) (s : Bool) (from to n : ℕ) (run′ : List A) → s ≡ false → run′ ≡ copied run to run from n → run′ ≡ copied run to (cond s other run) from n
-  returned-within run other s from to n run′ h e = rw h e
-
   -- ---- parts of a list that something was copied into
   -- before it
   take-before : (d s : List A) (to from n k : ℕ) → k ≤ to → to ≤ length d → take k (copied d to s from n) ≡ take k d

@@ -175,7 +175,7 @@ module _ (level wants : ℕ) where
       and-yes true = refl
       and-yes false = refl
 
-  fresh-held : (b : Buffer) (f s : List ℕ) → Held b f s → Held (freshBuffer level wants) f s
+  pub fresh-held : (b : Buffer) (f s : List ℕ) → Held b f s → Held (freshBuffer level wants) f s
   unfolding freshBuffer freshLimits
   fresh-held b f s v = record {
     idx-in = omega arith;
@@ -256,7 +256,7 @@ module _ (b : Buffer) (run other : List ℕ) (v : Held b run other) where
         (ap (drop i) (sym input-of))
         (ap (λ (n : ℕ). record { phase = b .phase; gone = n; limits = b .limits; level = readLevel (b .level); wants = b .wants }) (e ∙ sym (gone-without b o p)))
 
-    opened-of : opened (accountOf b run other) ≡ accountOf (openedBuffer b) run other
+    pub opened-of : opened (accountOf b run other) ≡ accountOf (openedBuffer b) run other
     unfolding accountOf stateOf goneOf shown openedBuffer opened withoutPositions inPhase withGone
     opened-of =
         let w : List (Glyph ℕ) → List (Glyph ℕ) = map (change (withPosition zeroPosition)) in
@@ -286,7 +286,7 @@ second-true x y h k = rw (h, k)
 neither-true : (x y : Bool) → x ≡ false → y ≡ false → x || y ≡ false
 neither-true x y h k = rw (h, k)
 
-opened-held : (b : Buffer) (f s : List ℕ) → Held b f s → Held (openedBuffer b) f s
+pub opened-held : (b : Buffer) (f s : List ℕ) → Held b f s → Held (openedBuffer b) f s
 unfolding openedBuffer
 opened-held b f s v = record {
   idx-in = omega arith;

@@ -4,6 +4,7 @@ pub mod Cursor
 pub mod State
 pub mod States
 pub mod Contract
+pub mod Verdicts
 pub mod Copied
 pub mod Filled
 pub mod Insertion

@@ -1,62 +1,121 @@
--- What the moves of glyphs ask for.
-use mathlib.Core.{Path._≡_, Bool.true, Bool.false, List.List}
-use Prim.Native.Nat.{ℕ, _+_, _≤_, _<_}
-use Rattle.lists.specs.declared.{Buffer.Buffer}
-use Rattle.lists.specs.Account.{outputPhase, spoiledPhase}
-use Rattle.lists.specs.State.{Held}
+-- What the moves of glyphs ask for and leave, and what the parts of `move_to` ask for.
+use mathlib.Core.{Path._≡_, Bool.Bool, Bool.true, Bool.false, Bool.cond, List.List, List._++_}
+use Prim.Native.Nat.{ℕ, _+_, _-_, _≤_, _<_}
+use lib.ListN.{length, drop, replicate}
+use Rattle.records.specs.{Value, Counters.costs, Counters.grown, Counters.isNegative, Glyphs.Glyph, Glyphs.zeroPosition, View.glyphs, View.placements}
+use Rattle.lists.specs.declared.{Buffer.Buffer, Verdict.Verdict}
+use Rattle.lists.specs.Account.{Account, outputPhase}
+use Rattle.lists.specs.Copied.{copied}
+use Rattle.lists.specs.Cursor.{moveTo, forward, backward}
+use Rattle.lists.specs.Results.{Result}
+use Rattle.lists.specs.State.{sound}
+use Rattle.lists.specs.States.{withLimitsOf, atPlaces}
+use Rattle.lists.specs.Verdicts.{leaving, settled, Decided}
 
--- n glyphs can go from the input to the output
-pub record Forwardable (b : Buffer) (n : ℕ) (run other : List ℕ) : Type 0 where
-  pub held : Held b run other
-  pub output : outputPhase (b .phase) ≡ true
-  pub in-len : b .idx .0 + n ≤ b .len .0
-  pub in-size : b .«out_len» .0 + n ≤ b .limits .allocated
+-- n glyphs of one slice, from place `from` on, can go to place `to` of either
+pub record Carriable (from to n : ℕ) (f s : List ℕ) : Type 0 where
+  pub same : length (glyphs f) ≡ length (glyphs s)
+  pub leaving : from + n ≤ length (glyphs f)
+  pub arriving : to + n ≤ length (glyphs f)
 
--- the input can go up by n
-pub record Shiftable (b : Buffer) (n : ℕ) (run other : List ℕ) : Type 0 where
-  pub held : Held b run other
-  pub output : outputPhase (b .phase) ≡ true
-  pub in-size : b .len .0 + n ≤ b .limits .allocated
+-- n glyphs of the run, from place `from` on, went to place `to` of the output
+pub record Carried (separate : Bool) (from to n : ℕ) (run other run′ other′ : List ℕ) : Type 0 where
+  pub run-is : glyphs run′ ≡ cond separate (glyphs run) (copied (glyphs run) to (glyphs run) from n)
+  pub other-is : glyphs other′ ≡ cond separate (copied (glyphs other) to (glyphs run) from n) (glyphs other)
 
--- n glyphs can go from the output back before the cursor
-pub record Returnable (b : Buffer) (n : ℕ) (run other : List ℕ) : Type 0 where
-  pub held : Held b run other
-  pub output : outputPhase (b .phase) ≡ true
-  pub in-idx : n ≤ b .idx .0
-  pub in-out : n ≤ b .«out_len» .0
+-- places before the cursor's move, lengths after it
+pub record Movable (i l o l′ o′ : ℕ) (f s : List ℕ) : Type 0 where
+  pub same : length (glyphs f) ≡ length (glyphs s)
+  pub idx-in : i ≤ l
+  pub grows : l ≤ l′
+  pub len-in : l′ ≤ length (glyphs f)
+  pub out-in : o ≤ length (glyphs f)
+  pub out-after-in : o′ ≤ length (glyphs f)
+  pub ahead : i + (o′ - o) ≤ l
+  pub behind : o - o′ ≤ i + (l′ - l)
 
--- a buffer without output, and not spoiled
-pub record Placeable (b : Buffer) (run other : List ℕ) : Type 0 where
-  pub held : Held b run other
-  pub plain : outputPhase (b .phase) ≡ false
-  pub clean : spoiledPhase (b .phase) ≡ false
+-- the input went up by k, which left `mid`, and then n glyphs of the output, from place `from` on, went back to place `to` of the run
+pub record Returned (separate : Bool) (i l k from to n : ℕ) (run other run′ : List ℕ) : Type 0 where
+  pub mid : List ℕ
+  pub long : length mid ≡ length run
+  pub up : glyphs mid ≡ copied (glyphs run) (i + k) (glyphs run) i (l - i)
+  pub back : glyphs run′ ≡ copied (glyphs mid) to (cond separate (glyphs other) (glyphs mid)) from n
+
+pub record Moved (separate : Bool) (i l o l′ o′ : ℕ) (run other run′ other′ : List ℕ) : Type 0 where
+  pub forth : o < o′ → Carried separate i o (o′ - o) run other run′ other′
+  pub back : o′ ≤ o → Returned separate i l (l′ - l) o′ (i + (l′ - l) - (o - o′)) (o - o′) run other run′
+  pub other-is : o′ ≤ o → other′ ≡ other
+
+-- the first n positions became zero
+pub record Zeroed (n : ℕ) (run other run′ other′ : List ℕ) : Type 0 where
+  pub run-is : run′ ≡ run
+  pub other-is : placements other′ ≡ replicate n zeroPosition ++ drop n (placements other)
 
 -- a buffer with output
-pub record SyncOutput (b : Buffer) (run other : List ℕ) : Type 0 where
-  pub held : Held b run other
+pub record Opened (b : Buffer) (f s : List ℕ) : Type 0 where
+  pub is-sound : sound b f s ≡ true
   pub output : outputPhase (b .phase) ≡ true
 
--- and that has not given up
-pub record Syncable (b : Buffer) (run other : List ℕ) : Type 0 where
-  pub held : Held b run other
-  pub output : outputPhase (b .phase) ≡ true
-  pub successful : b .limits .successful ≡ true
-
--- a buffer with output and n glyphs of the input before it
-pub record NextOutput (b : Buffer) (n : ℕ) (run other : List ℕ) : Type 0 where
-  pub held : Held b run other
+-- and n glyphs of the input before it
+pub record Forwarding (b : Buffer) (n : ℕ) (f s : List ℕ) : Type 0 where
+  pub is-sound : sound b f s ≡ true
   pub output : outputPhase (b .phase) ≡ true
   pub in-len : b .idx .0 + n ≤ b .len .0
+  pub some : 0 < n
 
--- and n glyphs of the output behind it
-pub record BackOutput (b : Buffer) (n : ℕ) (run other : List ℕ) : Type 0 where
-  pub held : Held b run other
+-- or n glyphs of the output behind it
+pub record Backing (b : Buffer) (n : ℕ) (f s : List ℕ) : Type 0 where
+  pub is-sound : sound b f s ≡ true
   pub output : outputPhase (b .phase) ≡ true
   pub in-out : n ≤ b .«out_len» .0
+  pub in-idx : n ≤ b .idx .0
 
--- more of them than the input has room for
-pub record BackOver (b : Buffer) (n : ℕ) (run other : List ℕ) : Type 0 where
-  pub held : Held b run other
+-- or n glyphs of the output behind it, more than the input has room for
+pub record BackOver (b : Buffer) (n : ℕ) (f s : List ℕ) : Type 0 where
+  pub is-sound : sound b f s ≡ true
   pub output : outputPhase (b .phase) ≡ true
   pub in-out : n ≤ b .«out_len» .0
   pub past : b .idx .0 < n
+
+-- forward by n, once the size is there and its cost is paid
+unfoldable pub forwardVerdict : ℕ → Buffer → Verdict
+forwardVerdict n b =
+    let limits = costs n (grown (b .«out_len» .0 + n) (b .limits)) in
+    let paid = withLimitsOf limits b in
+    cond (isNegative (limits .«max_ops»)) (leaving paid false (Value 0)) (leaving (atPlaces (b .idx .0 + n) (b .len .0) (b .«out_len» .0 + n) paid) true (Value 1))
+
+pub record Forwards (n : ℕ) (b : Buffer) (v : Verdict) : Type 0 where
+  pub is : v ≡ forwardVerdict n b
+
+-- back by n, once its cost is paid; `shifts`: the input has gone up for it
+unfoldable pub backVerdict : ℕ → Bool → Buffer → Verdict
+backVerdict n shifts b =
+    let paid = withLimitsOf (costs n (b .limits)) b in
+    cond (isNegative (costs n (b .limits) .«max_ops»)) (leaving paid shifts (Value 0)) (leaving (atPlaces (b .idx .0 - n) (b .len .0) (b .«out_len» .0 - n) paid) true (Value 1))
+
+pub record Backs (n : ℕ) (shifts : Bool) (b : Buffer) (v : Verdict) : Type 0 where
+  pub is : v ≡ backVerdict n shifts b
+
+-- the same over the start of the input: the cost of its going up first
+unfoldable pub shiftVerdict : ℕ → Buffer → Verdict
+shiftVerdict n b =
+    let left = b .len .0 - b .idx .0 in
+    let limits = costs left (grown (left + n) (b .limits)) in
+    let paid = withLimitsOf limits b in
+    cond (isNegative (limits .«max_ops»)) (leaving paid false (Value 0)) (backVerdict n true (atPlaces n (left + n) (b .«out_len» .0) paid))
+
+pub record Shifts (n : ℕ) (b : Buffer) (v : Verdict) : Type 0 where
+  pub is : v ≡ shiftVerdict n b
+
+-- what is promised of a verdict on `move_to` and its parts
+abbrev MoveDecided : (ℕ → Account ℕ → Result ℕ) → Buffer → (f s : List ℕ) → Verdict → Type 0
+MoveDecided call b f s v = Decided call b f s (settled b v) (v .acts) (Movable (b .idx .0) (b .len .0) (b .«out_len» .0) (v .len) (v .«out_len») f s) (Moved (b .«have_separate_output») (b .idx .0) (b .len .0) (b .«out_len» .0) (v .len) (v .«out_len»))
+
+pub record MovesForward (n : ℕ) (b : Buffer) (f s : List ℕ) (v : Verdict) : Type 0 where
+  pub is : MoveDecided (λ capacity a. forward capacity n a) b f s v
+
+pub record MovesBack (n : ℕ) (b : Buffer) (f s : List ℕ) (v : Verdict) : Type 0 where
+  pub is : MoveDecided (λ capacity a. backward capacity n a) b f s v
+
+pub record MovesTo (i : ℕ) (b : Buffer) (f s : List ℕ) (v : Verdict) : Type 0 where
+  pub is : MoveDecided (λ capacity a. moveTo capacity i a) b f s v

@@ -42,6 +42,10 @@ inOrder b capacity =
 unfoldable pub sound : Buffer → (first second : List ℕ) → Bool
 sound b f s = rightlyLent (length f) (length s) && inOrder b (capacityOf (length f))
 
+-- the test of it, by t
+pub record Soundness (b : Buffer) (f s : List ℕ) (t : Bool) : Type 0 where
+  pub is : t ≡ sound b f s
+
 -- the same as facts, for the functions below the exported ones
 pub record Held (b : Buffer) (run other : List ℕ) : Type 0 where
   pub idx-in : b .idx .0 ≤ b .len .0

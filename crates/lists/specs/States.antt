@@ -3,6 +3,7 @@ use mathlib.Core.{Bool.true, Bool.false, Bool.cond, Bool.not}
 use Prim.Native.Nat.{ℕ}
 use Rattle.records.specs.{Plain, Output, Positions, Spoiled, Limits, Answer, Counters.freshLimits}
 use Rattle.lists.specs.declared.{Buffer.Buffer, Reply.Reply}
+use Rattle.lists.specs.Account.{outputPhase}
 
 abbrev pub reply : Buffer → Answer → Reply
 reply b a = record { buffer = b; answer = a }
@@ -30,3 +31,7 @@ swappedBuffer b = record { idx = record { 0 = 0 }; len = record { 0 = b .«out_l
 
 unfoldable pub spoiledBuffer : Buffer → Buffer
 spoiledBuffer b = record { idx = record { 0 = 0 }; len = b .len; «out_len» = record { 0 = 0 }; phase = Spoiled; limits = b .limits; level = b .level; wants = b .wants; swapped = b .swapped; «have_separate_output» = false }
+
+-- the last of refusal 1's tests, as a bound: how much output there can be
+unfoldable pub mostOutput : Buffer → ℕ
+mostOutput b = cond (outputPhase (b .phase)) (cond (b .«have_separate_output») (b .limits .allocated) (b .idx .0)) 0

@@ -9,6 +9,8 @@ use records::Position;
 
 pub mod copies;
 pub mod cursor;
+mod cursor_moves;
+mod deciding;
 pub mod fills;
 pub mod groups;
 pub mod items;
@@ -20,26 +22,40 @@ pub mod ranges;
 pub mod reversals;
 pub mod rotation;
 pub mod state;
+pub mod verdicts;
 
 // The state of a buffer, beside the two slices that are lent to every call. specs/State.antt says which account it is.
+// The fields stand so that no gap between them has three or more odd bytes: LLVM copies such a gap through memory.
 pub struct Buffer {
     pub idx: InputPlace,
     pub len: InputPlace,
     pub out_len: DonePlace,
-    pub phase: Phase,
     pub limits: Limits,
-    // One above 3 reads as 0: `state::read_level`.
-    pub level: u32,
     pub wants: u32,
+    pub phase: Phase,
     // The second lent slice holds the run.
     pub swapped: bool,
     // The output lies in the slice that does not hold the run.
     pub have_separate_output: bool,
+    // One above 3 reads as 0: `state::read_level`.
+    pub level: u32,
 }
 
 // What a call gives back.
 pub struct Reply {
     pub buffer: Buffer,
+    pub answer: Answer,
+}
+
+// What a call comes to, before a word is written: the places and limits that it leaves, whether its output moves to the slice that does not
+// hold the run, whether glyphs are written for it, and its answer.
+pub struct Verdict {
+    pub idx: usize,
+    pub len: usize,
+    pub out_len: usize,
+    pub limits: Limits,
+    pub apart: bool,
+    pub acts: bool,
     pub answer: Answer,
 }
 

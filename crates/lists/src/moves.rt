@@ -1,22 +1,18 @@
-// Moves of glyphs between the input and the output, in whichever slice the output lies.
+// Moves of glyphs between the input and the output, by places, in whichever slice the output lies.
 ghost use mathlib.Core.Path.{_≡_};
 ghost use mathlib.Core.Bool.{cond};
-ghost use Prim.Native.Nat.{_+_, _≤_};
 ghost use mathlib.Core.List.{List};
-ghost use Prim.Native.Nat.{ℕ};
+ghost use Prim.Native.Nat.{ℕ, _+_, _≤_};
 ghost use lib.ListN.{length};
-ghost use Rattle.records.specs.View.{glyphs};
+ghost use Rattle.records.specs.View.{glyphs, placements};
 ghost use Rattle.lists.specs.Copied.{copied};
-ghost use Rattle.lists.specs.Cursor.{moved, growing, back, positioned};
-ghost use Rattle.lists.specs.Contract.{Moves};
-ghost use Rattle.lists.specs.Moving.{Forwardable, Shiftable, Returnable, Placeable};
-use super::Buffer;
-use super::state;
+ghost use Rattle.lists.specs.Moving.{Carried, Carriable, Moved, Movable, Zeroed};
+ghost use Rattle.lists.specs.Verdicts.{Sided};
 
 // n glyphs of the run, from place `from` on, go to place `to` of the output. Where they lie there already, nothing is written.
 fn carry(run: &mut [u32], other: &mut [u32], separate: bool, from: usize, to: usize, n: usize)
-    requires { ⌜ (from + n ≤ length (glyphs (now run))) × (to + n ≤ length (glyphs (now run))) × (to + n ≤ length (glyphs (now other))) ⌝ }
-    ensures { λ r. ⌜ (glyphs (now (run .exit)) ≡ cond separate (glyphs (now (run .entry))) (copied (glyphs (now (run .entry))) to (glyphs (now (run .entry))) from n)) × (glyphs (now (other .exit)) ≡ cond separate (copied (glyphs (now (other .entry))) to (glyphs (now (run .entry))) from n) (glyphs (now (other .entry)))) ⌝ }
+    requires { ⌜ Carriable from to n (now run) (now other) ⌝ }
+    ensures { λ r. ⌜ Carried separate from to n (now (run .entry)) (now (other .entry)) (now (run .exit)) (now (other .exit)) ⌝ }
 {
     if separate {
         super::copies::copy_across(run, other, from, to, n);
@@ -28,9 +24,29 @@ fn carry(run: &mut [u32], other: &mut [u32], separate: bool, from: usize, to: us
     super::copies::copy_within(run, from, to, n);
 }
 
+// The same, wherever the run lies.
+pub(crate) fn carry_by(
+    first: &mut [u32],
+    second: &mut [u32],
+    swapped: bool,
+    separate: bool,
+    from: usize,
+    to: usize,
+    n: usize,
+)
+    requires { ⌜ Carriable from to n (now first) (now second) ⌝ }
+    ensures { λ r. ⌜ Sided swapped (Carried separate from to n) (now (first .entry)) (now (second .entry)) (now (first .exit)) (now (second .exit)) ⌝ }
+{
+    if swapped {
+        carry(second, first, separate, from, to, n);
+    } else {
+        carry(first, second, separate, from, to, n);
+    }
+}
+
 // n glyphs of the output, from place `from` on, go to place `to` of the run.
 fn carry_back(run: &mut [u32], other: &mut [u32], separate: bool, from: usize, to: usize, n: usize)
-    requires { ⌜ (to + n ≤ length (glyphs (now run))) × (from + n ≤ length (glyphs (now run))) × (from + n ≤ length (glyphs (now other))) ⌝ }
+    requires { ⌜ Carriable from to n (now run) (now other) ⌝ }
     ensures { λ r. ⌜ (glyphs (now (run .exit)) ≡ copied (glyphs (now (run .entry))) to (cond separate (glyphs (now (other .entry))) (glyphs (now (run .entry)))) from n) × (now (other .exit) ≡ now (other .entry)) ⌝ }
 {
     if separate {
@@ -43,44 +59,71 @@ fn carry_back(run: &mut [u32], other: &mut [u32], separate: bool, from: usize, t
     super::copies::copy_within(run, from, to, n);
 }
 
-// n glyphs of the input become output.
-pub(crate) fn forward(b: Buffer, run: &mut [u32], other: &mut [u32], n: usize) -> Buffer
-    requires { ⌜ Forwardable b n (now run) (now other) ⌝ }
-    ensures { λ r. ⌜ Moves (moved n) b (now (run .entry)) (now (other .entry)) r (now (run .exit)) (now (other .exit)) ⌝ }
+// n glyphs of the run go up, from place `from` to place `to`.
+fn shift_forward(run: &mut [u32], from: usize, to: usize, n: usize)
+    requires { ⌜ (from + n ≤ length (glyphs (now run))) × (to + n ≤ length (glyphs (now run))) ⌝ }
+    ensures { λ r. ⌜ glyphs (now (run .exit)) ≡ copied (glyphs (now (run .entry))) to (glyphs (now (run .entry))) from n ⌝ }
 {
-    let idx = b.idx.0;
-    let out_len = b.out_len.0;
-    carry(run, other, b.have_separate_output, idx, out_len, n);
-    state::at_places(b, idx + n, b.len.0, out_len + n)
+    if from == to {
+        return;
+    }
+    super::copies::copy_within(run, from, to, n);
 }
 
-// The rest of the input goes up by n, and leaves a gap behind the cursor's old place.
-pub(crate) fn shift_forward(b: Buffer, run: &mut [u32], n: usize) -> Buffer
-    requires { ⌜ ((other : List ℕ) → length (now run) ≡ length other → Shiftable b n (now run) other) ⌝ }
-    ensures { λ r. ⌜ ((other : List ℕ) → length (now (run .entry)) ≡ length other → Moves (growing n) b (now (run .entry)) other r (now (run .exit)) other) ⌝ }
+// What the cursor's move carries, from the places before it and the lengths after it: forward, or up and then back.
+fn move_run(
+    run: &mut [u32],
+    other: &mut [u32],
+    separate: bool,
+    idx: usize,
+    len: usize,
+    out_len: usize,
+    len_after: usize,
+    out_after: usize,
+)
+    requires { ⌜ Movable idx len «out_len» «len_after» «out_after» (now run) (now other) ⌝ }
+    ensures { λ r. ⌜ Moved separate idx len «out_len» «len_after» «out_after» (now (run .entry)) (now (other .entry)) (now (run .exit)) (now (other .exit)) ⌝ }
 {
-    let idx = b.idx.0;
-    let len = b.len.0;
-    super::copies::copy_within(run, idx, idx + n, len - idx);
-    state::at_places(b, idx + n, len + n, b.out_len.0)
+    if out_len < out_after {
+        carry(run, other, separate, idx, out_len, out_after - out_len);
+        return;
+    }
+    let at = idx + (len_after - len);
+    let n = out_len - out_after;
+    shift_forward(run, idx, at, len - idx);
+    carry_back(run, other, separate, out_after, at - n, n);
 }
 
-// The last n glyphs of the output become input again.
-pub(crate) fn backward(b: Buffer, run: &mut [u32], other: &mut [u32], n: usize) -> Buffer
-    requires { ⌜ Returnable b n (now run) (now other) ⌝ }
-    ensures { λ r. ⌜ Moves (back n) b (now (run .entry)) (now (other .entry)) r (now (run .exit)) (now (other .exit)) ⌝ }
+// The same, wherever the run lies.
+pub(crate) fn move_by(
+    first: &mut [u32],
+    second: &mut [u32],
+    swapped: bool,
+    separate: bool,
+    idx: usize,
+    len: usize,
+    out_len: usize,
+    len_after: usize,
+    out_after: usize,
+)
+    requires { ⌜ Movable idx len «out_len» «len_after» «out_after» (now first) (now second) ⌝ }
+    ensures { λ r. ⌜ Sided swapped (Moved separate idx len «out_len» «len_after» «out_after») (now (first .entry)) (now (second .entry)) (now (first .exit)) (now (second .exit)) ⌝ }
 {
-    let idx = b.idx.0 - n;
-    let out_len = b.out_len.0 - n;
-    carry_back(run, other, b.have_separate_output, out_len, idx, n);
-    state::at_places(b, idx, b.len.0, out_len)
+    if swapped {
+        move_run(second, first, separate, idx, len, out_len, len_after, out_after);
+    } else {
+        move_run(first, second, separate, idx, len, out_len, len_after, out_after);
+    }
 }
 
-// Positions, all zero, for the glyphs of the run.
-pub(crate) fn zero_positions(b: Buffer, run: &mut [u32], other: &mut [u32]) -> Buffer
-    requires { ⌜ Placeable b (now run) (now other) ⌝ }
-    ensures { λ r. ⌜ Moves positioned b (now (run .entry)) (now (other .entry)) r (now (run .exit)) (now (other .exit)) ⌝ }
+// Positions, all zero, for n glyphs of the run.
+pub(crate) fn zero_positions_by(first: &mut [u32], second: &mut [u32], swapped: bool, n: usize)
+    requires { ⌜ (n ≤ length (placements (now first))) × (n ≤ length (placements (now second))) ⌝ }
+    ensures { λ r. ⌜ Sided swapped (Zeroed n) (now (first .entry)) (now (second .entry)) (now (first .exit)) (now (second .exit)) ⌝ }
 {
-    super::fills::zero_positions(other, 0, b.len.0);
-    state::positioned(b)
+    if swapped {
+        super::fills::zero_positions(first, 0, n);
+    } else {
+        super::fills::zero_positions(second, 0, n);
+    }
 }

@@ -3,8 +3,8 @@ ghost use mathlib.Core.Path.{_≡_};
 ghost use mathlib.Core.Bool.{not, cond};
 ghost use Rattle.lists.specs.Account.{outputPhase, positionsPhase, spoiledPhase, readLevel};
 ghost use Rattle.lists.specs.Contract.{Begins};
-ghost use Rattle.lists.specs.State.{inOrder, sound, roomFor};
-ghost use Rattle.lists.specs.States.{atPlaces, withLimitsOf, freshBuffer, apartBuffer, openedBuffer, positionedBuffer, swappedBuffer, spoiledBuffer, reply};
+ghost use Rattle.lists.specs.State.{inOrder, Soundness, roomFor};
+ghost use Rattle.lists.specs.States.{mostOutput, atPlaces, withLimitsOf, freshBuffer, apartBuffer, openedBuffer, positionedBuffer, swappedBuffer, spoiledBuffer, reply};
 use super::Buffer;
 use super::Reply;
 use super::Room;
@@ -58,6 +58,20 @@ pub fn read_level(level: u32) -> u32
     0
 }
 
+// The most output that there can be: what is allocated where it lies apart, what the cursor left behind where it lies in the run.
+fn most_output(b: Buffer) -> usize
+    ensures { λ r. ⌜ r ≡ mostOutput b ⌝ }
+{
+    let phase = b.phase;
+    if have_output(phase) {
+        if b.have_separate_output {
+            return b.limits.allocated;
+        }
+        return b.idx.0;
+    }
+    0
+}
+
 // Whether the counters agree with each other and with the capacity.
 fn in_order(b: Buffer, capacity: usize) -> bool
     ensures { λ r. ⌜ r ≡ inOrder b capacity ⌝ }
@@ -68,25 +82,15 @@ fn in_order(b: Buffer, capacity: usize) -> bool
     if b.limits.allocated < b.len.0 {
         return false;
     }
-    if b.limits.allocated < b.out_len.0 {
-        return false;
-    }
     if capacity < b.limits.allocated {
         return false;
     }
-    let phase = b.phase;
-    if have_output(phase) {
-        if b.have_separate_output {
-            return true;
-        }
-        return b.out_len.0 <= b.idx.0;
-    }
-    b.out_len.0 == 0
+    b.out_len.0 <= most_output(b)
 }
 
 // What refusal 1 tests: counters and lengths only.
 pub fn is_sound(b: Buffer, first: &[u32], second: &[u32]) -> bool
-    ensures { λ r. ⌜ r ≡ sound b (now (first .entry)) (now (second .entry)) ⌝ }
+    ensures { λ r. ⌜ Soundness b (now (first .entry)) (now (second .entry)) r ⌝ }
 {
     if records::glyphs::rightly_lent(first, second) {
         return in_order(b, records::glyphs::capacity(first));

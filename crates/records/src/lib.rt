@@ -42,8 +42,8 @@ pub struct Limits {
     pub allocated: usize,
     pub max_len: usize,
     pub max_ops: u32,
-    pub successful: bool,
     pub serial: u8,
+    pub successful: bool,
 }
 
 // Why a call is turned back. specs/Answers.antt has the number of each.

@@ -9,7 +9,7 @@ is-sound-requires : tie.Need-is-sound-requires
 is-sound-requires c κs = search needs
 
 replace-in-requires : tie.Need-replace-in-requires
-replace-in-requires c κs = held-turned _ _ _ (sound-held _ _ _ (tested (c .before .before .before .before .is-sound .ensures) (c .before .before .before .if1 .taken)))
+replace-in-requires c κs = held-turned _ _ _ (sound-held _ _ _ (tested (c .before .before .before .before .is-sound .ensures .is) (c .before .before .before .if1 .taken)))
 
 same-length : tie.Need-same-length
 same-length c = search needs
@@ -21,7 +21,7 @@ returns : tie.Need-returns
 returns c = search (shell-second, tested)
 
 replace-in-requires-2 : tie.Need-replace-in-requires-2
-replace-in-requires-2 c κs = sound-held _ _ _ (tested (c .before .before .before .before .is-sound .ensures) (c .before .before .before .if1 .taken))
+replace-in-requires-2 c κs = sound-held _ _ _ (tested (c .before .before .before .before .is-sound .ensures .is) (c .before .before .before .if1 .taken))
 
 same-length-3 : tie.Need-same-length-3
 same-length-3 c = search needs

@@ -1,61 +1,10 @@
-use mathlib.Core.Path.{sym, _∙_}
-use Rattle.records.specs.{WrongPhase}
-use Rattle.lists.proofs.Accounts.{sound-held}
-use Rattle.lists.proofs.Calls.{shell-unsound, shell-refused}
-use Rattle.lists.proofs.Simple.{spoiled-account, lig-spoiled, lig-meets}
+use Rattle.lists.proofs.Decisions.{ends}
 use borrow.Author.Needs.{needs}
 use Rattle.lists.proofs.cursor.allocate_lig_id.Statement.{statement}
 use Rattle.lists.proofs.cursor.allocate_lig_id.Tie as tie
 
-is-sound-requires : tie.Need-is-sound-requires
-is-sound-requires c κs = search needs
-
-is-spoiled-requires : tie.Need-is-spoiled-requires
-is-spoiled-requires c κs = search needs
-
-refusal-requires : tie.Need-refusal-requires
-refusal-requires c κs = search needs
-
 returns : tie.Need-returns
-returns c = let h = (sym (c .before .before .before .before .is-sound .ensures) ∙ c .before .before .before .if1 .taken) in shell-refused h WrongPhase (lig-spoiled _ (spoiled-account _ _ _ (sound-held _ _ _ h) ∙ (sym (c .before .before .is-spoiled .ensures) ∙ c .before .if2 .taken))) (c .refusal .ensures)
-
-lig-serial-requires : tie.Need-lig-serial-requires
-lig-serial-requires c κs = search needs
-
-with-serial-requires : tie.Need-with-serial-requires
-with-serial-requires c κs = search needs
-
-with-limits-requires : tie.Need-with-limits-requires
-with-limits-requires c κs = search needs
-
-cast-answered : tie.Need-cast-answered
-cast-answered c = search needs
-
-answered-requires : tie.Need-answered-requires
-answered-requires c κs = search needs
-
-returns-2 : tie.Need-returns-2
-returns-2 c = lig-meets (sym (c .before .before .before .before .before .before .before .is-sound .ensures) ∙ c .before .before .before .before .before .before .if1 .taken) (sym (c .before .before .before .before .before .is-spoiled .ensures) ∙ c .before .before .before .before .if2 .left) (c .before .before .before .lig-serial .ensures) (c .before .before .with-serial .ensures) (c .before .with-limits .ensures) (c .answered .ensures)
-
-refusal-requires-2 : tie.Need-refusal-requires-2
-refusal-requires-2 c κs = search needs
-
-returns-3 : tie.Need-returns-3
-returns-3 c = shell-unsound (sym (c .before .before .is-sound .ensures) ∙ c .before .if1 .left) (c .refusal2 .ensures)
+returns c = search ends
 
 pub allocate-lig-id-spec : {M : Type 1} → statement M
-allocate-lig-id-spec =
-    tie.close
-    (tie.spec
-    is-sound-requires
-    is-spoiled-requires
-    refusal-requires
-    returns
-    lig-serial-requires
-    with-serial-requires
-    with-limits-requires
-    cast-answered
-    answered-requires
-    returns-2
-    refusal-requires-2
-    returns-3)
+allocate-lig-id-spec = tie.close (tie.spec (λ c κs. search needs) (λ c κs. search needs) returns)

@@ -15,10 +15,10 @@ in-order-requires : tie.Need-in-order-requires
 in-order-requires c κs = search needs
 
 returns : tie.Need-returns
-returns c = c .in-order .ensures ∙ (ap (inOrder _) (c .before .capacity .ensures) ∙ sym (sound-is _ _ _ (sym (c .before .before .before .rightly-lent .ensures) ∙ c .before .before .if1 .taken)))
+returns c = record { is = c .in-order .ensures ∙ (ap (inOrder _) (c .before .capacity .ensures) ∙ sym (sound-is _ _ _ (sym (c .before .before .before .rightly-lent .ensures) ∙ c .before .before .if1 .taken))) }
 
 returns-2 : tie.Need-returns-2
-returns-2 c = sym (sound-no _ _ _ (sym (c .before .rightly-lent .ensures) ∙ c .if1 .left))
+returns-2 c = record { is = sym (sound-no _ _ _ (sym (c .before .rightly-lent .ensures) ∙ c .if1 .left)) }
 
 pub is-sound-spec : {M : Type 1} → statement M
 is-sound-spec =

@@ -1,0 +1,20 @@
+use mathlib.Core.Logic.{⊎-elim}
+use Rattle.lists.proofs.Decisions.{end-acted, end-still, kept-length}
+use borrow.Author.Needs.{needs}
+use Rattle.lists.proofs.cursor.next_glyph.Statement.{statement}
+use Rattle.lists.proofs.cursor.next_glyph.Tie as tie
+
+carry-by-requires : tie.Need-carry-by-requires
+carry-by-requires c κs = c .before .before .before .next-verdict .ensures .asked (c .before .before .if1 .taken)
+
+same-length : tie.Need-same-length
+same-length c = ⊎-elim (λ w. search (kept-length, needs)) (λ w. search (kept-length, needs)) (c .before .if1 .came)
+
+same-length-2 : tie.Need-same-length-2
+same-length-2 c = ⊎-elim (λ w. search (kept-length, needs)) (λ w. search (kept-length, needs)) (c .before .if1 .came)
+
+returns : tie.Need-returns
+returns c = ⊎-elim (λ w. search (end-acted)) (λ w. search (end-still)) (c .before .if1 .came)
+
+pub next-glyph-spec : {M : Type 1} → statement M
+next-glyph-spec = tie.close (tie.spec (λ c κs. search needs) carry-by-requires (λ c κs. search needs) same-length same-length-2 returns)

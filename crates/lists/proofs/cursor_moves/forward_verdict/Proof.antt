@@ -1,0 +1,19 @@
+use Rattle.lists.proofs.MoveCalls.{forward-size, forward-idx, forward-goes, forward-fails, forward-over}
+use borrow.Author.Needs.{needs}
+use Rattle.lists.proofs.cursor_moves.forward_verdict.Statement.{statement}
+use Rattle.lists.proofs.cursor_moves.forward_verdict.Tie as tie
+
+add-size : tie.Need-add-size
+add-size c = search forward-size
+
+returns : tie.Need-returns
+returns c = search forward-goes
+
+returns-2 : tie.Need-returns-2
+returns-2 c = search forward-fails
+
+returns-3 : tie.Need-returns-3
+returns-3 c = search forward-over
+
+pub forward-verdict-spec : {M : Type 1} → statement M
+forward-verdict-spec = tie.close (tie.spec add-size (λ c κs. search needs) (λ c κs. search needs) (λ c. search needs) (λ c κs. search needs) (λ c. search needs) (λ c κs. search needs) (λ c. search needs) (λ c κs. search needs) returns returns-2 returns-3)

@@ -1,0 +1,13 @@
+use Rattle.lists.proofs.MoveCalls.{forwards-spent, forwards-goes}
+use borrow.Author.Needs.{needs}
+use Rattle.lists.proofs.cursor_moves.paid_forward.Statement.{statement}
+use Rattle.lists.proofs.cursor_moves.paid_forward.Tie as tie
+
+returns : tie.Need-returns
+returns c = search forwards-spent
+
+returns-2 : tie.Need-returns-2
+returns-2 c = search forwards-goes
+
+pub paid-forward-spec : {M : Type 1} → statement M
+paid-forward-spec = tie.close (tie.spec (λ c κs. search needs) (λ c κs. search needs) (λ c κs. search needs) (λ c κs. search needs) (λ c κs. search needs) returns (λ c. search needs) (λ c κs. search needs) (λ c κs. search needs) returns-2)

@@ -1,0 +1,16 @@
+use Rattle.lists.proofs.MoveCalls.{shifts-spent, shifts-goes, shifts-ready}
+use borrow.Author.Needs.{needs}
+use Rattle.lists.proofs.cursor_moves.paid_shift.Statement.{statement}
+use Rattle.lists.proofs.cursor_moves.paid_shift.Tie as tie
+
+returns : tie.Need-returns
+returns c = search shifts-spent
+
+paid-back-requires : tie.Need-paid-back-requires
+paid-back-requires c κs = shifts-ready _ _ _ _ (c .at-places .ensures) (search needs)
+
+returns-2 : tie.Need-returns-2
+returns-2 c = search shifts-goes
+
+pub paid-shift-spec : {M : Type 1} → statement M
+paid-shift-spec = tie.close (tie.spec (λ c. search needs) (λ c κs. search needs) (λ c κs. search needs) (λ c κs. search needs) (λ c κs. search needs) (λ c κs. search needs) returns (λ c κs. search needs) paid-back-requires returns-2)

@@ -1,0 +1,21 @@
+use Rattle.records.proofs.Tests.{tested}
+use Rattle.lists.proofs.Decisions.{is-sound, is-unsound, settles-unsound, settles-refused, settles-accepted}
+use Rattle.lists.proofs.CursorCalls.{enter-spoiled, enter-accepts, sound-len}
+use borrow.Author.Needs.{needs}
+use Rattle.lists.proofs.deciding.enter_verdict.Statement.{statement}
+use Rattle.lists.proofs.deciding.enter_verdict.Tie as tie
+
+returns : tie.Need-returns
+returns c = search (settles-refused, is-sound, enter-spoiled, tested)
+
+enter-requires : tie.Need-enter-requires
+enter-requires c κs = search sound-len
+
+returns-2 : tie.Need-returns-2
+returns-2 c = search (settles-accepted, is-sound, enter-accepts, tested)
+
+returns-3 : tie.Need-returns-3
+returns-3 c = search (settles-unsound, is-unsound, tested)
+
+pub enter-verdict-spec : {M : Type 1} → statement M
+enter-verdict-spec = tie.close (tie.spec (λ c κs. search needs) (λ c κs. search needs) (λ c κs. search needs) returns enter-requires (λ c κs. search needs) (λ c κs. search needs) returns-2 (λ c κs. search needs) returns-3)

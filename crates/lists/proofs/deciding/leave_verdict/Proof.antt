@@ -1,0 +1,18 @@
+use Rattle.records.proofs.Tests.{tested}
+use Rattle.lists.proofs.Decisions.{is-sound, is-unsound, settles-unsound, settles-refused, settles-accepted}
+use Rattle.lists.proofs.CursorCalls.{leave-spoiled, leave-accepts}
+use borrow.Author.Needs.{needs}
+use Rattle.lists.proofs.deciding.leave_verdict.Statement.{statement}
+use Rattle.lists.proofs.deciding.leave_verdict.Tie as tie
+
+returns : tie.Need-returns
+returns c = search (settles-refused, is-sound, leave-spoiled, tested)
+
+returns-2 : tie.Need-returns-2
+returns-2 c = search (settles-accepted, is-sound, leave-accepts, tested)
+
+returns-3 : tie.Need-returns-3
+returns-3 c = search (settles-unsound, is-unsound, tested)
+
+pub leave-verdict-spec : {M : Type 1} → statement M
+leave-verdict-spec = tie.close (tie.spec (λ c κs. search needs) (λ c κs. search needs) (λ c κs. search needs) returns (λ c κs. search needs) (λ c κs. search needs) (λ c κs. search needs) returns-2 (λ c κs. search needs) returns-3)

@@ -1,0 +1,33 @@
+use Rattle.records.proofs.Tests.{tested}
+use Rattle.lists.proofs.Decisions.{is-sound, is-unsound, decided-unsound, decided-accepted, decided-sized}
+use Rattle.lists.proofs.CursorCalls.{next-spoiled, next-outside, next-accepts, next-needs, next-does, room-carriable, sound-idx, idx-small, out-small}
+use borrow.Author.Needs.{needs}
+use Rattle.lists.proofs.deciding.next_verdict.Statement.{statement}
+use Rattle.lists.proofs.deciding.next_verdict.Tie as tie
+
+returns : tie.Need-returns
+returns c = search (next-spoiled, is-sound, tested)
+
+sub-if3 : tie.Need-sub-if3
+sub-if3 c = search sound-idx
+
+returns-2 : tie.Need-returns-2
+returns-2 c = search (next-outside, is-sound, tested)
+
+writes-requires : tie.Need-writes-requires
+writes-requires c κs = search (idx-small, out-small)
+
+returns-3 : tie.Need-returns-3
+returns-3 c = search (decided-sized, is-sound, next-needs, next-does, room-carriable, tested)
+
+passes-requires : tie.Need-passes-requires
+passes-requires c κs = search idx-small
+
+returns-4 : tie.Need-returns-4
+returns-4 c = search (decided-accepted, is-sound, next-accepts, tested)
+
+returns-5 : tie.Need-returns-5
+returns-5 c = search (decided-unsound, is-unsound)
+
+pub next-verdict-spec : {M : Type 1} → statement M
+next-verdict-spec = tie.close (tie.spec (λ c κs. search needs) (λ c κs. search needs) (λ c κs. search needs) returns sub-if3 (λ c κs. search needs) returns-2 (λ c κs. search needs) (λ c κs. search needs) (λ c κs. search needs) writes-requires returns-3 passes-requires returns-4 (λ c κs. search needs) returns-5)

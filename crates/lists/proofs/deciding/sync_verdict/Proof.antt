@@ -1,0 +1,28 @@
+use Rattle.records.proofs.Tests.{tested}
+use Rattle.lists.proofs.Decisions.{is-sound, is-unsound}
+use Rattle.lists.proofs.CursorCalls.{sound-idx, idx-small, out-small}
+use Rattle.lists.proofs.PhaseCalls.{sync-unsound, sync-phase, sync-spoils, sync-decided}
+use borrow.Author.Needs.{needs}
+use Rattle.lists.proofs.deciding.sync_verdict.Statement.{statement}
+use Rattle.lists.proofs.deciding.sync_verdict.Tie as tie
+
+sub-n : tie.Need-sub-n
+sub-n c = search sound-idx
+
+writes-requires : tie.Need-writes-requires
+writes-requires c κs = search (idx-small, out-small, needs)
+
+returns : tie.Need-returns
+returns c = search (sync-decided, is-sound, tested)
+
+returns-2 : tie.Need-returns-2
+returns-2 c = search (sync-spoils, is-sound, tested)
+
+returns-3 : tie.Need-returns-3
+returns-3 c = search (sync-phase, is-sound, tested)
+
+returns-4 : tie.Need-returns-4
+returns-4 c = search (sync-unsound, is-unsound)
+
+pub sync-verdict-spec : {M : Type 1} → statement M
+sync-verdict-spec = tie.close (tie.spec (λ c κs. search needs) (λ c κs. search needs) sub-n (λ c κs. search needs) (λ c κs. search needs) writes-requires returns (λ c κs. search needs) returns-2 (λ c κs. search needs) returns-3 (λ c κs. search needs) returns-4)

@@ -1,0 +1,16 @@
+use Rattle.lists.proofs.MoveCalls.{moved-forth, moved-back, back-carriable}
+use borrow.Author.Needs.{needs}
+use Rattle.lists.proofs.moves.move_run.Statement.{statement}
+use Rattle.lists.proofs.moves.move_run.Tie as tie
+
+returns : tie.Need-returns
+returns c = search moved-forth
+
+carry-back-requires : tie.Need-carry-back-requires
+carry-back-requires c κs = search (back-carriable, needs)
+
+returns-2 : tie.Need-returns-2
+returns-2 c = search (moved-back, needs)
+
+pub move-run-spec : {M : Type 1} → statement M
+move-run-spec = tie.close (tie.spec (λ c. search needs) (λ c κs. search needs) (λ c. search needs) (λ c. search needs) returns (λ c. search needs) (λ c. search needs) (λ c. search needs) (λ c κs. search needs) (λ c. search needs) carry-back-requires (λ c. search needs) (λ c. search needs) returns-2)

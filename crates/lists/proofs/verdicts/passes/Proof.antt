@@ -1,0 +1,10 @@
+use Rattle.lists.proofs.Decisions.{leaves-as}
+use borrow.Author.Needs.{needs}
+use Rattle.lists.proofs.verdicts.passes.Statement.{statement}
+use Rattle.lists.proofs.verdicts.passes.Tie as tie
+
+returns : tie.Need-returns
+returns c = search leaves-as
+
+pub passes-spec : {M : Type 1} → statement M
+passes-spec = tie.close (tie.spec (λ c. search needs) (λ c κs. search needs) (λ c κs. search needs) returns)

@@ -1,0 +1,13 @@
+use Rattle.lists.proofs.Decisions.{settled-acts, settled-still}
+use borrow.Author.Needs.{needs}
+use Rattle.lists.proofs.verdicts.settled_as.Statement.{statement}
+use Rattle.lists.proofs.verdicts.settled_as.Tie as tie
+
+returns : tie.Need-returns
+returns c = search settled-acts
+
+returns-2 : tie.Need-returns-2
+returns-2 c = search settled-still
+
+pub settled-as-spec : {M : Type 1} → statement M
+settled-as-spec = tie.close (tie.spec (λ c κs. search needs) returns (λ c κs. search needs) returns-2)

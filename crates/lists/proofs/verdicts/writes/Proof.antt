@@ -1,0 +1,16 @@
+use Rattle.lists.proofs.Decisions.{sized-fits, sized-fails, sized-over}
+use borrow.Author.Needs.{needs}
+use Rattle.lists.proofs.verdicts.writes.Statement.{statement}
+use Rattle.lists.proofs.verdicts.writes.Tie as tie
+
+returns : tie.Need-returns
+returns c = search sized-fits
+
+returns-2 : tie.Need-returns-2
+returns-2 c = search sized-fails
+
+returns-3 : tie.Need-returns-3
+returns-3 c = search sized-over
+
+pub writes-spec : {M : Type 1} → statement M
+writes-spec = tie.close (tie.spec (λ c. search needs) (λ c κs. search needs) (λ c. search needs) (λ c κs. search needs) (λ c κs. search needs) (λ c. search needs) (λ c κs. search needs) (λ c κs. search needs) (λ c. search needs) (λ c κs. search needs) (λ c. search needs) (λ c κs. search needs) returns returns-2 returns-3)
