@@ -12,16 +12,12 @@ use Rattle.lists.specs.Results.{Result, refused, accepted, answered, out
 use Rattle.lists.specs.State.{shown, goneOf, stateOf, accountOf, Held, roomFor}
 use Rattle.lists.specs.States.{reply, withLimitsOf, atPlaces, swappedBuffer, spoiledBuffer}
 use Rattle.lists.specs.Contract.{isNo, exchanged, accountIn, MeetsIn, Moves}
+use Rattle.lists.specs.Moving.{SyncOutput}
 use Rattle.lists.specs.Cursor.{moved, back, cursorAt, growing, swapped, spoiling, positioned, clearPositions, nextGlyphs, sync, paysFor, forward, goesBack, backward, moveTo}
 use Rattle.lists.proofs.Accounts.{output-clean, output-of, spoiled-of, limits-of, out-of, rest-of, idx-of, len-of, held-lengths, needing-fits, needing-gives-up, needing-over, fits-within}
 use Rattle.lists.proofs.Moving.{Forwardable, Shiftable, Returnable}
 use Rattle.lists.proofs.Simple.{cursor-of}
 use Rattle.lists.proofs.Calls.{in-refused, in-accepted, in-answered, in-call}
-
--- a buffer with output
-pub record SyncOutput (b : Buffer) (run other : List ℕ) : Type 0 where
-  pub held : Held b run other
-  pub output : outputPhase (b .phase) ≡ true
 
 -- and that has not given up
 pub record Syncable (b : Buffer) (run other : List ℕ) : Type 0 where

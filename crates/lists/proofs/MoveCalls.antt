@@ -13,7 +13,7 @@ use Rattle.lists.specs.Cursor.{moveTo, forward, backward, goesBack, grow
 use Rattle.lists.specs.State.{accountOf, sound, Held, roomFor}
 use Rattle.lists.specs.States.{reply, withLimitsOf, atPlaces}
 use Rattle.lists.specs.Contract.{MeetsIn, Moves}
-use Rattle.lists.specs.Moving.{Carriable, Carried, Movable, Returned, Moved, Opened, Forwarding, Backing, BackOver, forwardVerdict, Forwards, backVerdict, Backs, shiftVerdict, Shifts, MovesForward, MovesBack, MovesTo}
+use Rattle.lists.specs.Moving.{Carriable, Carried, Movable, Returned, Moved, SyncOutput, Opened, Forwarding, Backing, BackOver, forwardVerdict, Forwards, backVerdict, Backs, shiftVerdict, Shifts, MovesForward, MovesBack, MovesTo}
 use Rattle.lists.specs.Verdicts.{leaving, Leaves, failedBuffer, settled, Decided}
 use Rattle.lists.proofs.Accounts.{sound-held, fits-within}
 use Rattle.lists.proofs.Calls.{in-call}
@@ -271,7 +271,7 @@ module _ {b : Buffer} {f s : List ℕ} {v : Verdict} {i : ℕ} where
       move-places {x} k ex q = record { is = decided-accepted h (record { near = rw ex (near-places b i (b .len .0) (b .«out_len» .0)); law = λ run other l. inner.move-in-places i (l .held) p o k ex refl }) q }
 
 module _ {b : Buffer} {f s : List ℕ} (w : Opened b f s) where
-  opened : {run other : List ℕ} → Lying b f run other → inner.SyncOutput b run other
+  opened : {run other : List ℕ} → Lying b f run other → SyncOutput b run other
   opened l = record { held = l .held; output = w .output }
 
   pub opened-left : b .idx .0 ≤ b .len .0

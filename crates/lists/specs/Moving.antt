@@ -8,7 +8,7 @@ use Rattle.lists.specs.Account.{Account, outputPhase}
 use Rattle.lists.specs.Copied.{copied}
 use Rattle.lists.specs.Cursor.{moveTo, forward, backward}
 use Rattle.lists.specs.Results.{Result}
-use Rattle.lists.specs.State.{sound}
+use Rattle.lists.specs.State.{sound, Held}
 use Rattle.lists.specs.States.{withLimitsOf, atPlaces}
 use Rattle.lists.specs.Verdicts.{leaving, settled, Decided}
 
@@ -51,7 +51,12 @@ pub record Zeroed (n : ℕ) (run other run′ other′ : List ℕ) : Type 0 wher
   pub run-is : run′ ≡ run
   pub other-is : placements other′ ≡ replicate n zeroPosition ++ drop n (placements other)
 
--- a buffer with output
+-- a buffer with output, of the slice that holds the run and the other
+pub record SyncOutput (b : Buffer) (run other : List ℕ) : Type 0 where
+  pub held : Held b run other
+  pub output : outputPhase (b .phase) ≡ true
+
+-- the same of the two slices
 pub record Opened (b : Buffer) (f s : List ℕ) : Type 0 where
   pub is-sound : sound b f s ≡ true
   pub output : outputPhase (b .phase) ≡ true
