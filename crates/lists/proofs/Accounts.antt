@@ -33,11 +33,6 @@ unfolding UpCode
 over-gives e = subst UpCode (sym e) tt
 
 -- ---- phases
-pub output-is : (p : Phase) → outputPhase p ≡ true → p ≡ Output
-output-is Plain h = absurd (false≢true h)
-output-is Output h = refl
-output-is Positions h = absurd (false≢true h)
-output-is Spoiled h = absurd (false≢true h)
 
 pub output-clean : (p : Phase) → outputPhase p ≡ true → spoiledPhase p ≡ false
 output-clean Plain h = refl

@@ -6,7 +6,7 @@ use Rattle.records.specs.{Refusal, Contradiction, Done, Value, No, Answers.no, 
 use Rattle.records.proofs.View.{lent-same}
 use Rattle.lists.specs.declared.{Buffer.Buffer, Reply.Reply}
 use Rattle.lists.specs.Account.{Account}
-use Rattle.lists.specs.Results.{Result, refused, accepted, answered, outcome, refuse_when_else_}
+use Rattle.lists.specs.Results.{refuse_when_else_, Result, refused, accepted, answered, outcome}
 use Rattle.lists.specs.State.{accountOf, account, sound, Held}
 use Rattle.lists.specs.States.{reply}
 use Rattle.lists.specs.Contract.{judged, Meets, exchanged, accountIn, MeetsIn}
@@ -89,17 +89,9 @@ module _ {call : ℕ → Account ℕ → Result ℕ} {b : Buffer} {f s : List �
 
   -- a call that writes no word and goes by the account alone
   module _ (h : sound b f s ≡ true) where
-    pub shell-refused : (why : Refusal) → call (capacityOf (length f)) (account b f s) ≡ refused why → r ≡ reply b (No why) → Meets call b f s r f s
-    unfolding outcome
-    shell-refused why e er = rw er (record { is = sym (judged-sound call b f s h ∙ ap (outcome (account b f s)) e); stays = λ k. (refl, refl, refl); first-beyond = refl; second-beyond = refl; stays-sound = λ k. k })
-
     pub shell-accepted : (b′ : Buffer) → call (capacityOf (length f)) (account b f s) ≡ accepted (account b′ f s) → r ≡ reply b′ Done → Held b′ f s → Meets call b f s r f s
     unfolding outcome
     shell-accepted b′ e er v = rw er (record { is = sym (judged-sound call b f s h ∙ ap (outcome (account b f s)) e); stays = λ k. absurd (false≢true k); first-beyond = refl; second-beyond = refl; stays-sound = λ k. held-sound b′ f s (sound-lent b f s h) v })
-
-    pub shell-answered : (b′ : Buffer) (n : ℕ) → call (capacityOf (length f)) (account b f s) ≡ answered n (account b′ f s) → r ≡ reply b′ (Value n) → Held b′ f s → Meets call b f s r f s
-    unfolding outcome
-    shell-answered b′ n e er v = rw er (record { is = sym (judged-sound call b f s h ∙ ap (outcome (account b f s)) e); stays = λ k. absurd (false≢true k); first-beyond = refl; second-beyond = refl; stays-sound = λ k. held-sound b′ f s (sound-lent b f s h) v })
 
 -- ---- below the shell
 module _ {call : ℕ → Account ℕ → Result ℕ} {b : Buffer} {run other : List ℕ} {r : Reply} where

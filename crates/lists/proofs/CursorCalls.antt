@@ -4,21 +4,22 @@ use Prim.Native.Nat.{ℕ, _+_, _-_, _%_, _≤_, _<_, _^_}
 use native.Mathlib.Omega.{arith}
 use borrow.Author.Tests.{eqb-true}
 use lib.{Dec.eqb, Dec.ltb, ListN.length}
-use Rattle.records.specs.{WrongPhase, OutOfRange, Done, Value, No, Limits, Counters.capacityOf, Counters.limited, Counters.entered, Counters.left, Counters.ligSerial, Counters.withSerial, Counters.grown, View.glyphs}
+use Rattle.records.specs.{WrongPhase, OutOfRange, Done, Value, No, Limits, Counters.capacityOf, Counters.limited, Counters.entered, Counters.left, Counters.ligSerial, Counters.withSerial, View.glyphs}
 use Rattle.records.proofs.View.{length-glyphs, glyphs-same}
-use Rattle.lists.specs.declared.{Buffer.Buffer, Verdict.Verdict, Room.Room, Room.the-variants.Fits, Room.the-variants.GivesUp, Room.the-variants.Over}
+use Rattle.lists.specs.declared.{Buffer.Buffer, Verdict.Verdict}
 use Rattle.lists.specs.Account.{Account, outputPhase, spoiledPhase, hasOutput, isSpoiled, len, idx, limiting}
-use Rattle.lists.specs.Results.{Result, refused, accepted, answered, refuse_when_else_}
-use Rattle.lists.specs.Cursor.{enter, leave, allocateLigId, dropping, cursorAt, moved, skipGlyph, nextGlyphs}
+use Rattle.lists.specs.Results.{refuse_when_else_, Result, accepted, answered}
+use Rattle.lists.specs.Cursor.{enter, leave, allocateLigId, dropping, cursorAt, skipGlyph, nextGlyphs}
 use Rattle.lists.specs.State.{accountOf, sound, Soundness, Held}
 use Rattle.lists.specs.States.{withLimitsOf, atPlaces}
 use Rattle.lists.specs.Moving.{Carriable, Carried}
 use Rattle.lists.specs.Verdicts.{Leaves, wroteBuffer, liesElsewhere, settled, Decided}
 use Rattle.lists.proofs.Accounts.{output-of, spoiled-of, limits-of, limited-of, idx-of, len-of, sound-held, fits-within}
 use Rattle.lists.proofs.Simple.{refuse-yes, refuse-no, cursor-of, dropping-of}
-use Rattle.lists.proofs.Inner.{held-limits, few-left, enough-left, NextOutput, next-room, next-ready, next-moves}
+use Rattle.lists.proofs.Inner.{held-limits, few-left, enough-left}
+use Rattle.lists.proofs.SyncLaws.{NextOutput, next-room, next-ready, next-moves}
 use Rattle.lists.proofs.Moving.{carried-none, forward-moves}
-use Rattle.lists.proofs.Decisions.{Lying, Near, near-places, near-limits, near-placed, Refuses, Accepts, accepts, Does, Needs, Rooms, is-sound, decided-refused}
+use Rattle.lists.proofs.Decisions.{Lying, near-places, near-limits, near-placed, Refuses, Accepts, accepts, Does, Needs, Rooms, is-sound, decided-refused}
 
 -- ---- the first test of many calls
 pub spoiled-refuses : {b : Buffer} {f : List ℕ} (x : ℕ → Account ℕ → Result ℕ) → spoiledPhase (b .phase) ≡ true → Refuses (λ capacity a. refuse WrongPhase when isSpoiled a else x capacity a) b f WrongPhase
@@ -43,22 +44,25 @@ module _ {b : Buffer} {f : List ℕ} where
     unfolding enter entered limited
     enter-accepts el eb = rw (eb, el) (accepts Done refl (near-limits b _) (λ run other l. (
       refuse-no WrongPhase _ (isSpoiled (accountOf b run other)) (spoiled-of b run other ∙ h)
-      ∙ ap accepted (ap (λ n. limiting (entered n) (accountOf b run other)) (len-of b run other (l .held) h) ∙ sym (limited-of b run other (entered (b .len .0)))),
-      held-limits b run other (l .held) _ (omega arith) (l .held .all-in))))
+          ∙ ap accepted (ap (λ n. limiting (entered n) (accountOf b run other)) (len-of b run other (l .held) h) ∙ sym (limited-of b run other (entered (b .len .0)))),
+      held-limits b run other (l .held) _ (omega arith) (l .held .all-in),
+    )))
 
     pub leave-accepts : {l : Limits} {b′ : Buffer} → l ≡ left (b .limits) → b′ ≡ withLimitsOf l b → Accepts (λ capacity a. leave a) b f b′ Done
     unfolding leave left limited
     leave-accepts el eb = rw (eb, el) (accepts Done refl (near-limits b _) (λ run other l. (
       refuse-no WrongPhase _ (isSpoiled (accountOf b run other)) (spoiled-of b run other ∙ h) ∙ ap accepted (sym (limited-of b run other left)),
-      held-limits b run other (l .held) _ (omega arith) (l .held .all-in))))
+      held-limits b run other (l .held) _ (omega arith) (l .held .all-in),
+    )))
 
     pub lig-accepts : {n : ℕ} {l : Limits} {b′ : Buffer} → n ≡ ligSerial (b .limits .serial) → l ≡ withSerial n (b .limits) → b′ ≡ withLimitsOf l b → Accepts (λ capacity a. allocateLigId a) b f b′ (Value (n % 8))
     unfolding allocateLigId withSerial
     lig-accepts en el eb = rw (eb, el, en) (accepts (Value _) refl (near-limits b _) (λ run other l. (
       refuse-no WrongPhase _ (isSpoiled (accountOf b run other)) (spoiled-of b run other ∙ h)
-      ∙ (ap (λ (l : Limits). answered (ligSerial (l .serial) % 8) (limiting (withSerial (ligSerial (l .serial))) (accountOf b run other))) (limits-of b run other)
-      ∙ ap (answered (ligSerial (b .limits .serial) % 8)) (sym (limited-of b run other (withSerial (ligSerial (b .limits .serial)))))),
-      held-limits b run other (l .held) _ (omega arith) (l .held .all-in))))
+          ∙ (ap (λ (l : Limits). answered (ligSerial (l .serial) % 8) (limiting (withSerial (ligSerial (l .serial))) (accountOf b run other))) (limits-of b run other)
+          ∙ ap (answered (ligSerial (b .limits .serial) % 8)) (sym (limited-of b run other (withSerial (ligSerial (b .limits .serial)))))),
+      held-limits b run other (l .held) _ (omega arith) (l .held .all-in),
+    )))
 
 -- ---- 09, and 08 without output: the cursor goes on
 passed-held : {b : Buffer} {run other : List ℕ} (i : ℕ) → b .idx .0 ≤ i → i ≤ b .len .0 → Held b run other → Held (atPlaces i (b .len .0) (b .«out_len» .0) b) run other
@@ -119,15 +123,19 @@ module _ {b : Buffer} {f : List ℕ} where
   module _ (p : spoiledPhase (b .phase) ≡ false) where
     pub skip-outside : b .len .0 - b .idx .0 < 1 → Refuses (λ capacity a. skipGlyph a) b f OutOfRange
     unfolding skipGlyph
-    skip-outside k = record { law = λ run other l.
-      refuse-no WrongPhase _ (isSpoiled (accountOf b run other)) (spoiled-of b run other ∙ p)
-      ∙ refuse-yes OutOfRange _ (ltb (length ((accountOf b run other) .rest)) 1) (few-left b run other (l .held) p 1 k) }
+    skip-outside k = record {
+      law = λ run other l.
+          refuse-no WrongPhase _ (isSpoiled (accountOf b run other)) (spoiled-of b run other ∙ p)
+          ∙ refuse-yes OutOfRange _ (ltb (length ((accountOf b run other) .rest)) 1) (few-left b run other (l .held) p 1 k);
+    }
 
     next-refuses-far : {n : ℕ} → b .len .0 - b .idx .0 < n → Refuses (λ capacity a. nextGlyphs capacity n a) b f OutOfRange
     unfolding nextGlyphs
-    next-refuses-far {n} k = record { law = λ run other l.
-      refuse-no WrongPhase _ (isSpoiled (accountOf b run other)) (spoiled-of b run other ∙ p)
-      ∙ refuse-yes OutOfRange _ (ltb (length ((accountOf b run other) .rest)) n) (few-left b run other (l .held) p n k) }
+    next-refuses-far {n} k = record {
+      law = λ run other l.
+          refuse-no WrongPhase _ (isSpoiled (accountOf b run other)) (spoiled-of b run other ∙ p)
+          ∙ refuse-yes OutOfRange _ (ltb (length ((accountOf b run other) .rest)) n) (few-left b run other (l .held) p n k);
+    }
 
     pub next-outside : {n : ℕ} {s : List ℕ} {v : Verdict} → sound b f s ≡ true → b .len .0 - b .idx .0 < n → Leaves b false (No OutOfRange) v → NextDecided b n f s v
     next-outside h k w = decided-refused h (next-refuses-far k) w
@@ -152,8 +160,8 @@ module _ {b : Buffer} {f : List ℕ} where
         near = near-placed b _ _ _ _;
         none = λ k run other l. stands b n run other k;
         law = λ run other run′ other′ l lr lo act.
-          let v = next-output o l in
-          next-moves v (room .law run other l) refl refl (forward-moves _ n run other (next-ready v (room .law run other l) refl refl) run′ other′ (act .run-is) (act .other-is) lr lo refl) refl;
+            let v = next-output o l in
+            next-moves v (room .law run other l) refl refl (forward-moves _ n run other (next-ready v (room .law run other l) refl refl) run′ other′ (act .run-is) (act .other-is) lr lo refl) refl;
       }
 
 -- what the act asks for

@@ -1,7 +1,7 @@
 -- To unfold `executable` is to unfold every definition of this crate and of those below it: for theorems that compute.
 use Rattle.records.proofs.Executable as records
 use Rattle.lists.specs.Account.{readLevel, inPhase, withGone, withLimits, renamed, hasOutput, hasPositions, isSpoiled, input, len, idx, outLen, positions, freshAccount, limiting, paying, failing, sized, withInput, withDone, withRest}
-use Rattle.lists.specs.Results.{renamedResult, outcome, refuse_when_else_, needing}
+use Rattle.lists.specs.Results.{refuse_when_else_, renamedResult, outcome, needing}
 use Rattle.lists.specs.Cursor.{fresh, enter, leave, allocateLigId, moved, dropping, back, cursorAt, growing, swapped, spoiling, withoutPositions, opened, positioned, clearOutput, clearPositions, nextGlyphs, skipGlyph, sync, paysFor, forward, goesBack, backward, moveTo}
 use Rattle.lists.specs.Items.{items}
 

@@ -1,14 +1,18 @@
 pub mod Accounts
+pub mod BackCalls
+pub mod BackLaws
 pub mod Calls
 pub mod Chains
 pub mod Copying
 pub mod Counted
-pub mod Editing
 pub mod CursorCalls
 pub mod Decisions
+pub mod Editing
 pub mod Examples
 pub mod Executable
 pub mod Filling
+pub mod ForwardCalls
+pub mod ForwardLaws
 pub mod Infos
 pub mod Inner
 pub mod Insertions
@@ -21,4 +25,5 @@ pub mod PhaseCalls
 pub mod Renaming
 pub mod Runs
 pub mod Simple
+pub mod SyncLaws
 pub mod Turns

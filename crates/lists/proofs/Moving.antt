@@ -1,6 +1,6 @@
 -- Moves of glyphs between the input and the output: what they leave in the slices, and what that is on the account.
 use mathlib.Core.{Path._≡_, Path.refl, Path.sym, Path.ap, Path._∙_, Bool.Bool, Bool.true, Bool.false, Bool.cond, Bool.false≢true, List.List, List.[], List._++_, List.map, List.append-assoc}
-use Prim.Native.Nat.{ℕ, _+_, _-_, _≤_, _<_}
+use Prim.Native.Nat.{ℕ, _+_, _-_, _≤_}
 use native.Mathlib.Omega.{arith}
 use lib.ListN.{length, take, drop, replicate, length-replicate}
 use lib.Seq.{slice, drop-drop, take-take, take-add, take-append-le, drop-append-add, drop-at, length-take-le}
@@ -196,14 +196,8 @@ module _ (b : Buffer) (n : ℕ) (run other : List ℕ) (v : Forwardable b n run 
 
 -- ---- the rest of the input goes up by n
 module _ (b : Buffer) (n : ℕ) (run other : List ℕ) (v : Shiftable b n run other) where
-  pub shift-idx : b .idx .0 ≤ b .len .0
-  shift-idx = v .held .idx-in
-
   pub shift-room : (b .idx .0 + (b .len .0 - b .idx .0) ≤ length (glyphs run)) × (b .idx .0 + n + (b .len .0 - b .idx .0) ≤ length (glyphs run))
   shift-room = (omega arith, omega arith)
-
-  pub shift-small : (b .idx .0 + n ≤ 1048576) × (b .len .0 + n ≤ 1048576)
-  shift-small = (omega arith, omega arith)
 
   shift-held : Held (atPlaces (b .idx .0 + n) (b .len .0 + n) (b .«out_len» .0) b) run other
   unfolding atPlaces
@@ -259,11 +253,6 @@ module _ (b : Buffer) (n : ℕ) (run other : List ℕ) (v : Shiftable b n run ot
 
 -- ---- the last n glyphs of the output become input again
 module _ (b : Buffer) (n : ℕ) (run other : List ℕ) (v : Returnable b n run other) where
-  pub return-room : (b .idx .0 - n + n ≤ length (glyphs run)) × (b .«out_len» .0 - n + n ≤ length (glyphs run)) × (b .«out_len» .0 - n + n ≤ length (glyphs other))
-  return-room =
-      let same : length (glyphs run) ≡ length (glyphs other) = glyphs-same run other (v .held .same) in
-      (omega arith, omega arith, omega arith)
-
   return-held : Held (atPlaces (b .idx .0 - n) (b .len .0) (b .«out_len» .0 - n) b) run other
   unfolding atPlaces
   return-held = record {

@@ -4,13 +4,13 @@ use Prim.Native.Nat.{ℕ, _+_, _-_, _≤_, _<_}
 use native.Mathlib.Omega.{arith}
 use borrow.Author.Tests.{le-ltb, lt-ltb}
 use lib.{Dec.ltb, ListN.length}
-use Rattle.records.specs.{Refusal, Contradiction, WrongPhase, BadOperand, OverCapacity, Done, Value, No, Answer, Counters.capacityOf, View.placements}
+use Rattle.records.specs.{Refusal, Contradiction, WrongPhase, BadOperand, Done, Value, No, Answer, Counters.capacityOf, View.placements}
 use Rattle.records.proofs.View.{placements-glyphs}
 use Rattle.lists.specs.declared.{Buffer.Buffer, Reply.Reply, Verdict.Verdict, Room.Room, Room.the-variants.Fits, Room.the-variants.GivesUp, Room.the-variants.Over}
 use Rattle.lists.specs.Account.{Account, outputPhase, spoiledPhase, hasOutput, isSpoiled}
-use Rattle.lists.specs.Results.{Result, refused, accepted, refuse_when_else_}
+use Rattle.lists.specs.Results.{refuse_when_else_, Result, accepted}
 use Rattle.lists.specs.Cursor.{opened, positioned, fresh, clearOutput, clearPositions, sync}
-use Rattle.lists.specs.State.{accountOf, sound, Held, roomFor}
+use Rattle.lists.specs.State.{accountOf, sound, roomFor}
 use Rattle.lists.specs.States.{reply, withLimitsOf, atPlaces, freshBuffer, openedBuffer, positionedBuffer, spoiledBuffer, swappedBuffer}
 use Rattle.lists.specs.Contract.{Meets, MeetsIn}
 use Rattle.lists.specs.Moving.{Carriable, Carried, Zeroed}
@@ -19,8 +19,9 @@ use Rattle.lists.proofs.Accounts.{output-of, spoiled-of, sound-held, pl
 use Rattle.lists.proofs.Calls.{shell-unsound, shell-accepted, in-accepted}
 use Rattle.lists.proofs.Simple.{refuse-yes, refuse-no, fresh-account, fresh-held, opened-of, opened-held}
 use Rattle.lists.proofs.Moving.{Placeable, place-moves, forward-moves}
-use Rattle.lists.proofs.Inner.{move-accepted, Syncable, sync-in-none, sync-in-spoils, sync-over, sync-gives-up, sync-ready, sync-moves}
-use Rattle.lists.proofs.Decisions.{Lying, Refuses, leaves-is, near-same, settled-is, acts-is, meets-still, meets-refused, decided-still, decided-acts, settled-acts, settled-still, room-of, end-acted, end-still}
+use Rattle.lists.proofs.Inner.{move-accepted}
+use Rattle.lists.proofs.SyncLaws.{Syncable, sync-in-none, sync-in-spoils, sync-over, sync-gives-up, sync-ready, sync-moves}
+use Rattle.lists.proofs.Decisions.{Lying, Refuses, leaves-is, near-same, settled-is, acts-is, meets-still, meets-refused, decided-still, decided-acts, room-of, end-acted, end-still}
 use Rattle.lists.proofs.CursorCalls.{stands, room-carriable}
 
 -- ---- 00
@@ -79,7 +80,6 @@ by-phases b run other p e = rw (output-of b run other, spoiled-of b run other) e
 
 module _ {call : ℕ → Account ℕ → Result ℕ} (h : Account ℕ → Account ℕ) {b : Buffer} (after : Buffer) {f s : List ℕ} {v : Verdict} {Ask : Type 0} {Act : (run other run′ other′ : List ℕ) → Type 0}
     (is : (capacity : ℕ) (a : Account ℕ) → call capacity a ≡ (refuse WrongPhase when hasOutput a || isSpoiled a else accepted (h a))) where
-
   cleared : Clears b f s v → (sound b f s ≡ true → Ask)
       → (sound b f s ≡ true → outputPhase (b .phase) ≡ false → spoiledPhase (b .phase) ≡ false → (run other run′ other′ : List ℕ) → Lying b f run other → length run′ ≡ length run → length other′ ≡ length other → Act run other run′ other′ → call (capacityOf (length run)) (accountOf b run other) ≡ accepted (h (accountOf b run other)) → MeetsIn call b run other (reply after Done) run′ other′)
       → Decided call b f s (settledAs b after v) (v .acts) Ask Act
@@ -107,7 +107,7 @@ clear-output-meets {b} {x} {f} {s} {v} ev ex = rw ex (by (v .acts) refl)
   where
     decided : Decided (λ capacity a. clearOutput a) b f s (settledAs b (openedBuffer b) v) (v .acts) (Unit {0}) Unwritten
     decided = cleared opened (openedBuffer b) (λ capacity a. refl) ev (λ h. tt) (λ hx ho hp run other run′ other′ l lr lo act e. rw (act .0, act .1)
-      (in-accepted (openedBuffer b) refl refl refl (opened-held b run other (l .held)) (e ∙ ap accepted (opened-of b run other (l .held) ho hp)) refl))
+        (in-accepted (openedBuffer b) refl refl refl (opened-held b run other (l .held)) (e ∙ ap accepted (opened-of b run other (l .held) ho hp)) refl))
 
     by : (x : Bool) → v .acts ≡ x → Meets (λ capacity a. clearOutput a) b f s (settledAs b (openedBuffer b) v) f s
     by false e = decided .still e
@@ -116,8 +116,8 @@ clear-output-meets {b} {x} {f} {s} {v} ev ex = rw ex (by (v .acts) refl)
 pub clear-positions-decided : {b x : Buffer} {f s : List ℕ} {v : Verdict} → Clears b f s v → x ≡ positionedBuffer b → Decided (λ capacity a. clearPositions a) b f s (settledAs b x v) (v .acts) ((b .len .0 ≤ length (placements f)) × (b .len .0 ≤ length (placements s))) (Zeroed (b .len .0))
 unfolding clearPositions
 clear-positions-decided {b} {x} {f} {s} ev ex = rw ex (cleared positioned (positionedBuffer b) (λ capacity a. refl) ev (λ h. let w = sound-held b f s h in (omega (arith, placements-glyphs f), places-in b f s w)) (λ hx ho hp run other run′ other′ l lr lo act e.
-  let v : Placeable b run other = record { held = l .held; plain = ho; clean = hp } in
-  rw (act .run-is) (move-accepted (place-moves b run other v other′ (act .other-is) lo refl) refl e refl)))
+    let v : Placeable b run other = record { held = l .held; plain = ho; clean = hp } in
+    rw (act .run-is) (move-accepted (place-moves b run other v other′ (act .other-is) lo refl) refl e refl)))
 
 -- the act comes before the reply is made
 pub clear-first : {b : Buffer} {f s : List ℕ} {v : Verdict} → Clears b f s v → v .acts ≡ true → b .len .0 ≤ length (placements f)

@@ -1,22 +1,21 @@
 -- Laws of the calls on the counters and the cursor that write no word.
-use mathlib.Core.{Path._≡_, Path.refl, Path.sym, Path.ap, Path._∙_, Bool.Bool, Bool.true, Bool.false, Bool.cond, Bool.not, Bool.Bool·beq, Bool._&&_, Bool._||_, Bool.false≢true, List.List, List.[], List._++_, List.map}
-use Prim.Native.Nat.{ℕ, _+_, _-_, _%_, _≤_, _<_}
+use mathlib.Core.{Path._≡_, Path.refl, Path.sym, Path.ap, Path._∙_, Bool.Bool, Bool.true, Bool.false, Bool.cond, Bool.not, Bool.Bool·beq, Bool._&&_, Bool.false≢true, List.List, List.[], List._++_, List.map}
+use Prim.Native.Nat.{ℕ, _+_, _-_, _≤_, _<_}
 use native.Mathlib.Omega.{arith}
 use borrow.Author.Tests.{le-leb, lt-leb, le-ltb, lt-ltb}
-use lib.{Dec.leb, Dec.ltb, ListN.length, ListN.take, ListN.drop, ListN.take-append-drop, Seq.slice, Seq.slice-empty, Seq.take-take, Seq.drop-drop}
-use Rattle.records.specs.{Phase, Plain, Output, Positions, Spoiled, Refusal, WrongPhase, OutOfRange, BadOperand, Done, Value, No, Limits, Answers.no, Answers.refusalNumber, Counters.capacityOf, Counters.rightlyLent, Counters.freshLimits, Counters.limited, Counters.entered, Counters.left, Counters.ligSerial, Counters.withSerial, Glyphs.Glyph, Glyphs.change, Glyphs.withPosition, Glyphs.zeroPosition, View.glyphs, View.placements}
+use lib.{Dec.ltb, ListN.length, ListN.take, ListN.drop, ListN.take-append-drop, Seq.slice, Seq.slice-empty, Seq.take-take, Seq.drop-drop}
+use Rattle.records.specs.{Phase, Plain, Output, Positions, Spoiled, Refusal, BadOperand, Done, No, Limits, Answers.no, Answers.refusalNumber, Counters.capacityOf, Counters.rightlyLent, Counters.freshLimits, Glyphs.Glyph, Glyphs.change, Glyphs.withPosition, Glyphs.zeroPosition, View.glyphs, View.placements}
 use Rattle.records.proofs.View.{glyphs-plain, paired-plain}
 use Rattle.records.proofs.Renaming.{take-map}
 use Rattle.lists.specs.declared.{Buffer.Buffer, Reply.Reply}
-use Rattle.lists.specs.Account.{Account, inPhase, withGone, outputPhase, spoiledPhase, hasOutput, isSpoiled, input, len, idx, freshAccount, limiting, readLevel}
-use Rattle.lists.specs.Results.{Result, Outcome, refused, accepted, answered, outcome, refuse_when_else_}
-use Rattle.lists.specs.Cursor.{fresh, enter, leave, allocateLigId, dropping, cursorAt, withoutPositions, opened, clearOutput, skipGlyph}
+use Rattle.lists.specs.Account.{Account, inPhase, withGone, outputPhase, spoiledPhase, hasOutput, input, len, idx, freshAccount, readLevel}
+use Rattle.lists.specs.Results.{Result, Outcome, refused, accepted, outcome, refuse_when_else_}
+use Rattle.lists.specs.Cursor.{fresh, dropping, cursorAt, withoutPositions, opened}
 use Rattle.lists.specs.State.{shown, goneOf, stateOf, accountOf, account, inOrder, sound, Held}
-use Rattle.lists.specs.States.{withLimitsOf, atPlaces, freshBuffer, openedBuffer, swappedBuffer, reply}
-use Rattle.lists.specs.Contract.{Meets, Begins}
-use Rattle.lists.proofs.Accounts.{output-of, spoiled-of, limited-of, rest-of, idx-of, len-of, held-turned, sound-held}
+use Rattle.lists.specs.States.{atPlaces, freshBuffer, openedBuffer, swappedBuffer, reply}
+use Rattle.lists.specs.Contract.{Begins}
+use Rattle.lists.proofs.Accounts.{output-of, held-turned, sound-held}
 use Rattle.lists.proofs.Outputs.{gone-output, gone-without}
-use Rattle.lists.proofs.Calls.{shell-accepted, shell-answered}
 
 -- ---- a line of a call's tests
 module _ (why : Refusal) (x : Result ℕ) where
@@ -40,110 +39,9 @@ module _ (b : Buffer) (f s : List ℕ) where
       by-side true = law s f (held-turned b f s v)
       by-side false = law f s v
 
-  -- of the accounts of two buffers with the run on the same side
-  pub on-accounts : (b′ : Buffer) (P : Account ℕ → Account ℕ → Type 0) → b .swapped ≡ b′ .swapped → Held b f s → ((run other : List ℕ) → Held b run other → P (accountOf b run other) (accountOf b′ run other)) → P (account b f s) (account b′ f s)
-  unfolding account
-  on-accounts b′ P e v law = by-sides (b .swapped) (b′ .swapped) e
-    where
-      by-sides : (x y : Bool) → x ≡ y → P (cond x (accountOf b s f) (accountOf b f s)) (cond y (accountOf b′ s f) (accountOf b′ f s))
-      by-sides true true q = law s f (held-turned b f s v)
-      by-sides true false q = absurd (false≢true (sym q))
-      by-sides false true q = absurd (false≢true q)
-      by-sides false false q = law f s v
-
   module _ (v : Held b f s) where
-    pub spoiled-account : isSpoiled (account b f s) ≡ spoiledPhase (b .phase)
-    spoiled-account = on-account (λ a. isSpoiled a ≡ spoiledPhase (b .phase)) v (λ run other w. spoiled-of b run other)
-
     pub output-account : hasOutput (account b f s) ≡ outputPhase (b .phase)
     output-account = on-account (λ a. hasOutput a ≡ outputPhase (b .phase)) v (λ run other w. output-of b run other)
-
-    limits-account : (account b f s) .state .limits ≡ b .limits
-    unfolding accountOf stateOf
-    limits-account = on-account (λ a. a .state .limits ≡ b .limits) v (λ run other w. refl)
-
-    limited-account : (h : Limits → Limits) → limiting h (account b f s) ≡ account (withLimitsOf (h (b .limits)) b) f s
-    unfolding withLimitsOf
-    limited-account h = on-accounts (withLimitsOf (h (b .limits)) b) (λ a a′. limiting h a ≡ a′) refl v (λ run other w. sym (limited-of b run other h))
-
-    module _ (h : spoiledPhase (b .phase) ≡ false) where
-      len-account : len (account b f s) ≡ b .len .0
-      len-account = on-account (λ a. len a ≡ b .len .0) v (λ run other w. len-of b run other w h)
-
-      rest-account : length ((account b f s) .rest) ≡ b .len .0 - b .idx .0
-      rest-account = on-account (λ a. length (a .rest) ≡ b .len .0 - b .idx .0) v (λ run other w. rest-of b run other w h)
-
--- ---- 24, 25, 26: the limits alone
-held-limits : (b : Buffer) (f s : List ℕ) (l : Limits) → l .allocated ≡ b .limits .allocated → Held b f s → Held (withLimitsOf l b) f s
-unfolding withLimitsOf
-held-limits b f s l e v = record {
-  idx-in = v .idx-in;
-  len-in = omega arith;
-  out-in = omega arith;
-  all-in = omega arith;
-  most = v .most;
-  same = v .same;
-  whole = v .whole;
-  behind = v .behind;
-  none = v .none;
-}
-
-module _ (a : Account ℕ) where
-  pub enter-spoiled : isSpoiled a ≡ true → enter a ≡ refused WrongPhase
-  unfolding enter
-  enter-spoiled h = refuse-yes WrongPhase _ (isSpoiled a) h
-
-  pub leave-spoiled : isSpoiled a ≡ true → leave a ≡ refused WrongPhase
-  unfolding leave
-  leave-spoiled h = refuse-yes WrongPhase _ (isSpoiled a) h
-
-  pub lig-spoiled : isSpoiled a ≡ true → allocateLigId a ≡ refused WrongPhase
-  unfolding allocateLigId
-  lig-spoiled h = refuse-yes WrongPhase _ (isSpoiled a) h
-
-module _ (b : Buffer) (f s : List ℕ) (v : Held b f s) where
-  pub len-most : b .len .0 ≤ 1048576
-  len-most = omega arith
-
-  module _ (h : spoiledPhase (b .phase) ≡ false) where
-    clean : isSpoiled (account b f s) ≡ false
-    clean = spoiled-account b f s v ∙ h
-
-    enter-is : enter (account b f s) ≡ accepted (account (withLimitsOf (entered (b .len .0) (b .limits)) b) f s)
-    unfolding enter
-    enter-is =
-        refuse-no WrongPhase _ (isSpoiled (account b f s)) clean
-        ∙ ap accepted (ap (λ n. limiting (entered n) (account b f s)) (len-account b f s v h) ∙ limited-account b f s v (entered (b .len .0)))
-
-    leave-is : leave (account b f s) ≡ accepted (account (withLimitsOf (left (b .limits)) b) f s)
-    unfolding leave
-    leave-is = refuse-no WrongPhase _ (isSpoiled (account b f s)) clean ∙ ap accepted (limited-account b f s v left)
-
-    lig-is : allocateLigId (account b f s) ≡ answered (ligSerial (b .limits .serial) % 8) (account (withLimitsOf (withSerial (ligSerial (b .limits .serial)) (b .limits)) b) f s)
-    unfolding allocateLigId
-    lig-is =
-        refuse-no WrongPhase _ (isSpoiled (account b f s)) clean
-        ∙ (ap (λ (l : Limits). answered (ligSerial (l .serial) % 8) (limiting (withSerial (ligSerial (l .serial))) (account b f s))) (limits-account b f s v)
-        ∙ ap (answered (ligSerial (b .limits .serial) % 8)) (limited-account b f s v (withSerial (ligSerial (b .limits .serial)))))
-
-module _ {b : Buffer} {f s : List ℕ} {r : Reply} (h : sound b f s ≡ true) (g : spoiledPhase (b .phase) ≡ false) where
-  pub enter-meets : {l : Limits} {b′ : Buffer} → l ≡ entered (b .len .0) (b .limits) → b′ ≡ withLimitsOf l b → r ≡ reply b′ Done → Meets (λ capacity a. enter a) b f s r f s
-  unfolding entered limited
-  enter-meets el eb er =
-      let v = sound-held b f s h in
-      shell-accepted h (withLimitsOf (entered (b .len .0) (b .limits)) b) (enter-is b f s v g) (er ∙ ap (λ (x : Buffer). reply x Done) (eb ∙ ap (λ (x : Limits). withLimitsOf x b) el)) (held-limits b f s _ refl v)
-
-  pub leave-meets : {l : Limits} {b′ : Buffer} → l ≡ left (b .limits) → b′ ≡ withLimitsOf l b → r ≡ reply b′ Done → Meets (λ capacity a. leave a) b f s r f s
-  unfolding left limited
-  leave-meets el eb er =
-      let v = sound-held b f s h in
-      shell-accepted h (withLimitsOf (left (b .limits)) b) (leave-is b f s v g) (er ∙ ap (λ (x : Buffer). reply x Done) (eb ∙ ap (λ (x : Limits). withLimitsOf x b) el)) (held-limits b f s _ refl v)
-
-  pub lig-meets : {n : ℕ} {l : Limits} {b′ : Buffer} → n ≡ ligSerial (b .limits .serial) → l ≡ withSerial n (b .limits) → b′ ≡ withLimitsOf l b → r ≡ reply b′ (Value (n % 8)) → Meets (λ capacity a. allocateLigId a) b f s r f s
-  unfolding withSerial
-  lig-meets {n} en el eb er =
-      let v = sound-held b f s h in
-      shell-answered h _ _ (lig-is b f s v g) (er ∙ (ap (λ (x : Buffer). reply x (Value (n % 8))) (eb ∙ ap (λ (x : Limits). withLimitsOf x b) el) ∙ ap (λ (k : ℕ). reply (withLimitsOf (withSerial k (b .limits)) b) (Value (k % 8))) en)) (held-limits b f s _ refl v)
 
 -- ---- 00
 pub low-level : (level : ℕ) → level ≤ 3 → level ≡ readLevel level
@@ -188,11 +86,6 @@ module _ (level wants : ℕ) where
     behind = λ o k. omega arith;
     none = λ o. refl;
   }
-
-  pub fresh-meets : {b b′ : Buffer} {f s : List ℕ} {r : Reply} → sound b f s ≡ true → wants ≤ 3 → b′ ≡ freshBuffer level wants → r ≡ reply b′ Done → Meets (λ capacity a. fresh level wants a) b f s r f s
-  unfolding fresh
-  fresh-meets {b} {b′} {f} {s} h w eb er =
-      shell-accepted h (freshBuffer level wants) (refuse-no BadOperand _ (ltb 3 wants) (le-ltb 3 wants w) ∙ ap accepted (fresh-account f s)) (er ∙ ap (λ (x : Buffer). reply x Done) eb) (fresh-held b f s (sound-held b f s h))
 
 -- the first buffer
 module _ (level wants : ℕ) {b : Buffer} {r : Reply} where
@@ -276,16 +169,6 @@ module _ (b : Buffer) (run other : List ℕ) (v : Held b run other) where
       (ap (λ (k : ℕ). record { phase = b .phase; gone = k; limits = b .limits; level = readLevel (b .level); wants = b .wants }) (gone-output b′ o ∙ ap (λ (k : ℕ). k + n) (sym (gone-output b o))))
 
 -- ---- 03
-either-true : (x y : Bool) → x ≡ true → x || y ≡ true
-either-true true y h = refl
-either-true false y h = absurd (false≢true h)
-
-second-true : (x y : Bool) → x ≡ false → y ≡ true → x || y ≡ true
-second-true x y h k = rw (h, k)
-
-neither-true : (x y : Bool) → x ≡ false → y ≡ false → x || y ≡ false
-neither-true x y h k = rw (h, k)
-
 pub opened-held : (b : Buffer) (f s : List ℕ) → Held b f s → Held (openedBuffer b) f s
 unfolding openedBuffer
 opened-held b f s v = record {
@@ -299,89 +182,6 @@ opened-held b f s v = record {
   behind = λ o k. omega arith;
   none = λ o. refl;
 }
-
-module _ (b : Buffer) (f s : List ℕ) (v : Held b f s) where
-  pub clear-output-refused : outputPhase (b .phase) ≡ true → clearOutput (account b f s) ≡ refused WrongPhase
-  unfolding clearOutput
-  clear-output-refused h = refuse-yes WrongPhase _ (hasOutput (account b f s) || isSpoiled (account b f s)) (either-true _ _ (output-account b f s v ∙ h))
-
-  pub clear-output-spoiled : outputPhase (b .phase) ≡ false → spoiledPhase (b .phase) ≡ true → clearOutput (account b f s) ≡ refused WrongPhase
-  unfolding clearOutput
-  clear-output-spoiled h k = refuse-yes WrongPhase _ (hasOutput (account b f s) || isSpoiled (account b f s)) (second-true _ _ (output-account b f s v ∙ h) (spoiled-account b f s v ∙ k))
-
-  clear-output-is : outputPhase (b .phase) ≡ false → spoiledPhase (b .phase) ≡ false → clearOutput (account b f s) ≡ accepted (account (openedBuffer b) f s)
-  unfolding clearOutput openedBuffer
-  clear-output-is h k =
-      refuse-no WrongPhase _ (hasOutput (account b f s) || isSpoiled (account b f s)) (neither-true _ _ (output-account b f s v ∙ h) (spoiled-account b f s v ∙ k))
-      ∙ ap accepted (on-accounts b f s (openedBuffer b) (λ a a′. opened a ≡ a′) refl v (λ run other w. opened-of b run other w h k))
-
-pub clear-output-meets : {b b′ : Buffer} {f s : List ℕ} {r : Reply} → sound b f s ≡ true → outputPhase (b .phase) ≡ false → spoiledPhase (b .phase) ≡ false → b′ ≡ openedBuffer b → r ≡ reply b′ Done → Meets (λ capacity a. clearOutput a) b f s r f s
-clear-output-meets {b} {b′} {f} {s} h o p eb er =
-    let v = sound-held b f s h in
-    shell-accepted h (openedBuffer b) (clear-output-is b f s v o p) (er ∙ ap (λ (x : Buffer). reply x Done) eb) (opened-held b f s v)
-
--- ---- 09
-skip-spoiled-at : (a : Account ℕ) → isSpoiled a ≡ true → skipGlyph a ≡ refused WrongPhase
-unfolding skipGlyph
-skip-spoiled-at a h = refuse-yes WrongPhase _ (isSpoiled a) h
-
-module _ (x y : Account ℕ) where
-  chosen : (t : Bool) → t ≡ true → cond t x y ≡ x
-  chosen true h = refl
-  chosen false h = absurd (false≢true h)
-
-  left-over : (t : Bool) → t ≡ false → cond t x y ≡ y
-  left-over true h = absurd (false≢true (sym h))
-  left-over false h = refl
-
-skip-of : (b : Buffer) (run other : List ℕ) → Held b run other → spoiledPhase (b .phase) ≡ false → b .idx .0 < b .len .0 → cond (hasOutput (accountOf b run other)) (dropping 1 (accountOf b run other)) (cursorAt (idx (accountOf b run other) + 1) (accountOf b run other)) ≡ accountOf (atPlaces (b .idx .0 + 1) (b .len .0) (b .«out_len» .0) b) run other
-skip-of b run other v p h = by-output (outputPhase (b .phase)) refl
-  where
-    by-output : (t : Bool) → outputPhase (b .phase) ≡ t → cond (hasOutput (accountOf b run other)) (dropping 1 (accountOf b run other)) (cursorAt (idx (accountOf b run other) + 1) (accountOf b run other)) ≡ accountOf (atPlaces (b .idx .0 + 1) (b .len .0) (b .«out_len» .0) b) run other
-    by-output true e = chosen _ _ (hasOutput (accountOf b run other)) (output-of b run other ∙ e) ∙ sym (dropping-of b run other v e 1)
-    by-output false e =
-        left-over _ _ (hasOutput (accountOf b run other)) (output-of b run other ∙ e)
-        ∙ (ap (λ (i : ℕ). cursorAt (i + 1) (accountOf b run other)) (idx-of b run other v p)
-        ∙ sym (cursor-of b run other v e p (b .idx .0 + 1) (omega arith)))
-
-skipped-held : (b : Buffer) (f s : List ℕ) (i : ℕ) → b .idx .0 ≤ i → i ≤ b .len .0 → Held b f s → Held (atPlaces i (b .len .0) (b .«out_len» .0) b) f s
-unfolding atPlaces
-skipped-held b f s i h k v = record {
-  idx-in = k;
-  len-in = v .len-in;
-  out-in = v .out-in;
-  all-in = v .all-in;
-  most = v .most;
-  same = v .same;
-  whole = v .whole;
-  behind = λ o q. let e : b .«out_len» .0 ≤ b .idx .0 = v .behind o q in omega arith;
-  none = v .none;
-}
-
-module _ (b : Buffer) (f s : List ℕ) (v : Held b f s) where
-  pub skip-spoiled : spoiledPhase (b .phase) ≡ true → skipGlyph (account b f s) ≡ refused WrongPhase
-  skip-spoiled h = skip-spoiled-at (account b f s) (spoiled-account b f s v ∙ h)
-
-  module _ (p : spoiledPhase (b .phase) ≡ false) where
-    pub skip-out : b .len .0 ≤ b .idx .0 → skipGlyph (account b f s) ≡ refused OutOfRange
-    unfolding skipGlyph
-    skip-out h =
-        let e : length ((account b f s) .rest) ≡ b .len .0 - b .idx .0 = rest-account b f s v p in
-        refuse-no WrongPhase _ (isSpoiled (account b f s)) (spoiled-account b f s v ∙ p)
-        ∙ refuse-yes OutOfRange _ (ltb (length ((account b f s) .rest)) 1) (lt-ltb (length ((account b f s) .rest)) 1 (omega arith))
-
-    skip-is : b .idx .0 < b .len .0 → skipGlyph (account b f s) ≡ accepted (account (atPlaces (b .idx .0 + 1) (b .len .0) (b .«out_len» .0) b) f s)
-    unfolding skipGlyph atPlaces
-    skip-is h =
-        let e : length ((account b f s) .rest) ≡ b .len .0 - b .idx .0 = rest-account b f s v p in
-        refuse-no WrongPhase _ (isSpoiled (account b f s)) (spoiled-account b f s v ∙ p)
-        ∙ (refuse-no OutOfRange _ (ltb (length ((account b f s) .rest)) 1) (le-ltb (length ((account b f s) .rest)) 1 (omega arith))
-        ∙ ap accepted (on-accounts b f s (atPlaces (b .idx .0 + 1) (b .len .0) (b .«out_len» .0) b) (λ a a′. cond (hasOutput a) (dropping 1 a) (cursorAt (idx a + 1) a) ≡ a′) refl v (λ run other w. skip-of b run other w p h)))
-
-pub skip-meets : {b b′ : Buffer} {f s : List ℕ} {r : Reply} → sound b f s ≡ true → spoiledPhase (b .phase) ≡ false → b .idx .0 < b .len .0 → b′ ≡ atPlaces (b .idx .0 + 1) (b .len .0) (b .«out_len» .0) b → r ≡ reply b′ Done → Meets (λ capacity a. skipGlyph a) b f s r f s
-skip-meets {b} {b′} {f} {s} h p k eb er =
-    let v = sound-held b f s h in
-    shell-accepted h (atPlaces (b .idx .0 + 1) (b .len .0) (b .«out_len» .0) b) (skip-is b f s v p k) (er ∙ ap (λ (x : Buffer). reply x Done) eb) (skipped-held b f s (b .idx .0 + 1) (omega arith) (omega arith) v)
 
 -- ---- out_info: the output lies in the second slice where one of the two flags stands alone
 outputIn : Bool → Bool → (first second : List (Glyph ℕ)) → List (Glyph ℕ)

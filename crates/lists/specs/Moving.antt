@@ -2,7 +2,7 @@
 use mathlib.Core.{Path._≡_, Bool.Bool, Bool.true, Bool.false, Bool.cond, List.List, List._++_}
 use Prim.Native.Nat.{ℕ, _+_, _-_, _≤_, _<_}
 use lib.ListN.{length, drop, replicate}
-use Rattle.records.specs.{Value, Counters.costs, Counters.grown, Counters.isNegative, Glyphs.Glyph, Glyphs.zeroPosition, View.glyphs, View.placements}
+use Rattle.records.specs.{Value, Counters.costs, Counters.grown, Counters.isNegative, Glyphs.zeroPosition, View.glyphs, View.placements}
 use Rattle.lists.specs.declared.{Buffer.Buffer, Verdict.Verdict}
 use Rattle.lists.specs.Account.{Account, outputPhase}
 use Rattle.lists.specs.Copied.{copied}

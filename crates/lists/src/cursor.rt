@@ -79,7 +79,15 @@ pub fn next_glyphs(b: Buffer, first: &mut [u32], second: &mut [u32], n: usize) -
 {
     let v = deciding::next_verdict(b, first, second, n);
     if v.acts {
-        moves::carry_by(first, second, b.swapped, b.have_separate_output, b.idx.0, b.out_len.0, n);
+        moves::carry_by(
+            first,
+            second,
+            b.swapped,
+            b.have_separate_output,
+            b.idx.0,
+            b.out_len.0,
+            n,
+        );
     }
     verdicts::settled(b, v)
 }
@@ -90,7 +98,15 @@ pub fn next_glyph(b: Buffer, first: &mut [u32], second: &mut [u32]) -> Reply
 {
     let v = deciding::next_verdict(b, first, second, 1);
     if v.acts {
-        moves::carry_by(first, second, b.swapped, b.have_separate_output, b.idx.0, b.out_len.0, 1);
+        moves::carry_by(
+            first,
+            second,
+            b.swapped,
+            b.have_separate_output,
+            b.idx.0,
+            b.out_len.0,
+            1,
+        );
     }
     verdicts::settled(b, v)
 }
@@ -102,7 +118,15 @@ pub fn sync(b: Buffer, first: &mut [u32], second: &mut [u32]) -> Reply
     let v = deciding::sync_verdict(b, first, second);
     if v.acts {
         let n = b.len.0 - b.idx.0;
-        moves::carry_by(first, second, b.swapped, b.have_separate_output, b.idx.0, b.out_len.0, n);
+        moves::carry_by(
+            first,
+            second,
+            b.swapped,
+            b.have_separate_output,
+            b.idx.0,
+            b.out_len.0,
+            n,
+        );
     }
     verdicts::synced(b, v)
 }
@@ -113,7 +137,17 @@ pub fn move_to(b: Buffer, first: &mut [u32], second: &mut [u32], i: usize) -> Re
 {
     let v = cursor_moves::move_verdict(b, first, second, i);
     if v.acts {
-        moves::move_by(first, second, b.swapped, b.have_separate_output, b.idx.0, b.len.0, b.out_len.0, v.len, v.out_len);
+        moves::move_by(
+            first,
+            second,
+            b.swapped,
+            b.have_separate_output,
+            b.idx.0,
+            b.len.0,
+            b.out_len.0,
+            v.len,
+            v.out_len,
+        );
     }
     verdicts::settled(b, v)
 }

@@ -121,7 +121,11 @@ pub(crate) fn move_verdict(b: Buffer, first: &[u32], second: &[u32], i: usize) -
         if len < i {
             return verdicts::refused(b, Refusal::OutOfRange);
         }
-        return verdicts::verdict(state::at_places(b, i, len, b.out_len.0), false, Answer::Value(1));
+        return verdicts::verdict(
+            state::at_places(b, i, len, b.out_len.0),
+            false,
+            Answer::Value(1),
+        );
     }
     verdicts::refused(b, Refusal::Contradiction)
 }

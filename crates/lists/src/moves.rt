@@ -1,8 +1,7 @@
 // Moves of glyphs between the input and the output, by places, in whichever slice the output lies.
 ghost use mathlib.Core.Path.{_≡_};
 ghost use mathlib.Core.Bool.{cond};
-ghost use mathlib.Core.List.{List};
-ghost use Prim.Native.Nat.{ℕ, _+_, _≤_};
+ghost use Prim.Native.Nat.{_+_, _≤_};
 ghost use lib.ListN.{length};
 ghost use Rattle.records.specs.View.{glyphs, placements};
 ghost use Rattle.lists.specs.Copied.{copied};
@@ -110,9 +109,27 @@ pub(crate) fn move_by(
     ensures { λ r. ⌜ Sided swapped (Moved separate idx len «out_len» «len_after» «out_after») (now (first .entry)) (now (second .entry)) (now (first .exit)) (now (second .exit)) ⌝ }
 {
     if swapped {
-        move_run(second, first, separate, idx, len, out_len, len_after, out_after);
+        move_run(
+            second,
+            first,
+            separate,
+            idx,
+            len,
+            out_len,
+            len_after,
+            out_after,
+        );
     } else {
-        move_run(first, second, separate, idx, len, out_len, len_after, out_after);
+        move_run(
+            first,
+            second,
+            separate,
+            idx,
+            len,
+            out_len,
+            len_after,
+            out_after,
+        );
     }
 }
 

@@ -1,7 +1,7 @@
 // What a call comes to, before a word is written, and the reply that is made of it.
 ghost use mathlib.Core.Path.{_≡_};
 ghost use mathlib.Core.Bool.{false};
-ghost use Prim.Native.Nat.{_+_, _≤_, _<_, _^_};
+ghost use Prim.Native.Nat.{_+_, _<_, _^_};
 ghost use Rattle.lists.specs.States.{atPlaces};
 ghost use Rattle.lists.specs.Verdicts.{Leaves, failedBuffer, Sized, liesElsewhere, settled, settledAs, synced};
 use super::Buffer;
@@ -38,7 +38,11 @@ pub fn refused(b: Buffer, why: Refusal) -> Verdict
 pub fn fails(b: Buffer, answer: Answer) -> Verdict
     ensures { λ r. ⌜ Leaves (failedBuffer b) false answer r ⌝ }
 {
-    verdict(state::with_limits(b, records::counters::fail(b.limits)), false, answer)
+    verdict(
+        state::with_limits(b, records::counters::fail(b.limits)),
+        false,
+        answer,
+    )
 }
 
 // The cursor goes on by n, and nothing is written.

@@ -47,18 +47,4 @@ returns : tie.Need-returns Inv-loop μ-loop
 returns c = copying-done (c .before .loop .inv) (c .loop-test .left)
 
 pub copy-across-spec : {M : Type 1} → statement M
-copy-across-spec =
-    tie.close
-    (tie.spec
-    Inv-loop
-    μ-loop
-    loop-holds
-    add-get
-    get-requires
-    add-put
-    put-requires
-    add-i
-    loop-less
-    loop-again
-    same-length
-    returns)
+copy-across-spec = tie.close (tie.spec Inv-loop μ-loop loop-holds add-get get-requires add-put put-requires add-i loop-less loop-again same-length returns)

@@ -47,18 +47,4 @@ returns : tie.Need-returns Inv-loop μ-loop
 returns c = copying-done (c .before .loop .inv) (c .loop-test .left)
 
 pub copy-down-spec : {M : Type 1} → statement M
-copy-down-spec =
-    tie.close
-    (tie.spec
-    Inv-loop
-    μ-loop
-    loop-holds
-    add-get
-    get-requires
-    add-put
-    put-requires
-    add-i
-    loop-less
-    loop-again
-    same-length
-    returns)
+copy-down-spec = tie.close (tie.spec Inv-loop μ-loop loop-holds add-get get-requires add-put put-requires add-i loop-less loop-again same-length returns)

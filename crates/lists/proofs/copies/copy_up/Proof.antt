@@ -46,18 +46,4 @@ returns : tie.Need-returns Inv-loop μ-loop
 returns c = rising-done (c .before .loop .inv) (c .loop-test .left)
 
 pub copy-up-spec : {M : Type 1} → statement M
-copy-up-spec =
-    tie.close
-    (tie.spec
-    Inv-loop
-    μ-loop
-    loop-holds
-    sub-i
-    add-get
-    get-requires
-    add-put
-    put-requires
-    loop-less
-    loop-again
-    same-length
-    returns)
+copy-up-spec = tie.close (tie.spec Inv-loop μ-loop loop-holds sub-i add-get get-requires add-put put-requires loop-less loop-again same-length returns)

@@ -7,4 +7,4 @@ returns : tie.Need-returns
 returns c = search ends
 
 pub allocate-lig-id-spec : {M : Type 1} → statement M
-allocate-lig-id-spec = tie.close (tie.spec (λ c κs. search needs) (λ c κs. search needs) returns)
+allocate-lig-id-spec = tie.close (tie.spec (search needs) (search needs) returns)

@@ -8,4 +8,4 @@ returns : tie.Need-returns
 returns c = search (ends, clear-output-meets)
 
 pub clear-output-spec : {M : Type 1} → statement M
-clear-output-spec = tie.close (tie.spec (λ c κs. search needs) (λ c κs. search needs) (λ c κs. search needs) returns)
+clear-output-spec = tie.close (tie.spec (search needs) (search needs) (search needs) returns)

@@ -18,4 +18,4 @@ returns : tie.Need-returns
 returns c = ⊎-elim (λ w. search positions-acted) (λ w. search positions-still) (c .before .before .if1 .came)
 
 pub clear-positions-spec : {M : Type 1} → statement M
-clear-positions-spec = tie.close (tie.spec (λ c κs. search needs) zero-positions-by-requires (λ c κs. search needs) (λ c κs. search needs) same-length same-length-2 returns)
+clear-positions-spec = tie.close (tie.spec (search needs) zero-positions-by-requires (search needs) (search needs) same-length same-length-2 returns)

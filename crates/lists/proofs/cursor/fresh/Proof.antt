@@ -8,4 +8,4 @@ returns : tie.Need-returns
 returns c = ends (c .settled-as .ensures) (fresh-meets _ _ (c .before .before .fresh-verdict .ensures) (c .before .fresh-buffer .ensures))
 
 pub fresh-spec : {M : Type 1} → statement M
-fresh-spec = tie.close (tie.spec (λ c κs. search needs) (λ c κs. search needs) (λ c κs. search needs) returns)
+fresh-spec = tie.close (tie.spec (search needs) (search needs) (search needs) returns)

@@ -4,9 +4,6 @@ use borrow.Author.Needs.{needs}
 use Rattle.lists.proofs.cursor.out_info.Statement.{statement}
 use Rattle.lists.proofs.cursor.out_info.Tie as tie
 
-is-sound-requires : tie.Need-is-sound-requires
-is-sound-requires c κs = search needs
-
 first-of-requires : tie.Need-first-of-requires
 first-of-requires c κs = out-second-room _ _ _ (sym (c .before .before .before .is-sound .ensures .is) ∙ c .before .before .if1 .taken)
 
@@ -19,20 +16,8 @@ first-of-requires-2 c κs = out-first-room _ _ _ (sym (c .before .before .before
 returns-2 : tie.Need-returns-2
 returns-2 c = (out-first _ _ _ (sym (c .before .before .before .before .is-sound .ensures .is) ∙ c .before .before .before .if1 .taken) (c .before .if2 .left) (c .first-of2 .ensures .0), c .first-of2 .ensures .1)
 
-first-of-requires-3 : tie.Need-first-of-requires-3
-first-of-requires-3 c κs = search needs
-
 returns-3 : tie.Need-returns-3
 returns-3 c = (out-unsound _ _ _ (sym (c .before .before .is-sound .ensures .is) ∙ c .before .if1 .left) (c .first-of3 .ensures .0), c .first-of3 .ensures .1)
 
 pub out-info-spec : {M : Type 1} → statement M
-out-info-spec =
-    tie.close
-    (tie.spec
-    is-sound-requires
-    first-of-requires
-    returns
-    first-of-requires-2
-    returns-2
-    first-of-requires-3
-    returns-3)
+out-info-spec = tie.close (tie.spec (search needs) first-of-requires returns first-of-requires-2 returns-2 (search needs) returns-3)

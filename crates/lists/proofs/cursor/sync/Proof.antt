@@ -20,4 +20,4 @@ returns : tie.Need-returns
 returns c = ⊎-elim (λ w. search (end-acted)) (λ w. search (end-still)) (c .before .if1 .came)
 
 pub sync-spec : {M : Type 1} → statement M
-sync-spec = tie.close (tie.spec (λ c κs. search needs) sub-n carry-by-requires (λ c κs. search needs) same-length same-length-2 returns)
+sync-spec = tie.close (tie.spec (search needs) sub-n carry-by-requires (search needs) same-length same-length-2 returns)

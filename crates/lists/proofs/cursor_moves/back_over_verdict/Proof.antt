@@ -1,4 +1,4 @@
-use Rattle.lists.proofs.MoveCalls.{over-left, over-size, over-goes, over-fails, over-refused}
+use Rattle.lists.proofs.BackCalls.{over-left, over-size, over-goes, over-fails, over-refused}
 use borrow.Author.Needs.{needs}
 use Rattle.lists.proofs.cursor_moves.back_over_verdict.Statement.{statement}
 use Rattle.lists.proofs.cursor_moves.back_over_verdict.Tie as tie
@@ -22,4 +22,4 @@ returns-3 : tie.Need-returns-3
 returns-3 c = search over-refused
 
 pub back-over-verdict-spec : {M : Type 1} → statement M
-back-over-verdict-spec = tie.close (tie.spec sub-size add-size (λ c κs. search needs) (λ c κs. search needs) (λ c. search needs) paid-shift-requires (λ c. search needs) (λ c κs. search needs) (λ c. search needs) (λ c κs. search needs) returns returns-2 returns-3)
+back-over-verdict-spec = tie.close (tie.spec sub-size add-size (search needs) (search needs) (search needs) paid-shift-requires (search needs) (search needs) (search needs) (search needs) returns returns-2 returns-3)

@@ -1,4 +1,4 @@
-use Rattle.lists.proofs.MoveCalls.{forward-size, forward-idx, forward-goes, forward-fails, forward-over}
+use Rattle.lists.proofs.ForwardCalls.{forward-size, forward-goes, forward-fails, forward-over}
 use borrow.Author.Needs.{needs}
 use Rattle.lists.proofs.cursor_moves.forward_verdict.Statement.{statement}
 use Rattle.lists.proofs.cursor_moves.forward_verdict.Tie as tie
@@ -16,4 +16,4 @@ returns-3 : tie.Need-returns-3
 returns-3 c = search forward-over
 
 pub forward-verdict-spec : {M : Type 1} → statement M
-forward-verdict-spec = tie.close (tie.spec add-size (λ c κs. search needs) (λ c κs. search needs) (λ c. search needs) (λ c κs. search needs) (λ c. search needs) (λ c κs. search needs) (λ c. search needs) (λ c κs. search needs) returns returns-2 returns-3)
+forward-verdict-spec = tie.close (tie.spec add-size (search needs) (search needs) (search needs) (search needs) (search needs) (search needs) (search needs) (search needs) returns returns-2 returns-3)

@@ -28,4 +28,4 @@ returns-6 : tie.Need-returns-6
 returns-6 c = search move-failed
 
 pub move-output-verdict-spec : {M : Type 1} → statement M
-move-output-verdict-spec = tie.close (tie.spec sub-if1 add-if1 (λ c κs. search needs) returns (λ c. search needs) (λ c κs. search needs) returns-2 (λ c κs. search needs) returns-3 (λ c κs. search needs) returns-4 (λ c κs. search needs) returns-5 (λ c κs. search needs) returns-6)
+move-output-verdict-spec = tie.close (tie.spec sub-if1 add-if1 (search needs) returns (search needs) (λ c κs. search needs) returns-2 (λ c κs. search needs) returns-3 (search needs) returns-4 (search needs) returns-5 (search needs) returns-6)

@@ -21,4 +21,4 @@ returns-5 : tie.Need-returns-5
 returns-5 c = search (move-unsound, is-unsound)
 
 pub move-verdict-spec : {M : Type 1} → statement M
-move-verdict-spec = tie.close (tie.spec (λ c κs. search needs) (λ c κs. search needs) (λ c κs. search needs) returns (λ c κs. search needs) move-output-verdict-requires (λ c. search needs) (λ c κs. search needs) returns-3 (λ c κs. search needs) (λ c κs. search needs) returns-4 (λ c κs. search needs) returns-5)
+move-verdict-spec = tie.close (tie.spec (search needs) (search needs) (search needs) returns (search needs) move-output-verdict-requires (λ c. search needs) (search needs) returns-3 (search needs) (search needs) returns-4 (search needs) returns-5)

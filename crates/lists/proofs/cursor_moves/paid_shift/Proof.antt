@@ -1,4 +1,4 @@
-use Rattle.lists.proofs.MoveCalls.{shifts-spent, shifts-goes, shifts-ready}
+use Rattle.lists.proofs.BackCalls.{shifts-spent, shifts-goes, shifts-ready}
 use borrow.Author.Needs.{needs}
 use Rattle.lists.proofs.cursor_moves.paid_shift.Statement.{statement}
 use Rattle.lists.proofs.cursor_moves.paid_shift.Tie as tie
@@ -13,4 +13,4 @@ returns-2 : tie.Need-returns-2
 returns-2 c = search shifts-goes
 
 pub paid-shift-spec : {M : Type 1} → statement M
-paid-shift-spec = tie.close (tie.spec (λ c. search needs) (λ c κs. search needs) (λ c κs. search needs) (λ c κs. search needs) (λ c κs. search needs) (λ c κs. search needs) returns (λ c κs. search needs) paid-back-requires returns-2)
+paid-shift-spec = tie.close (tie.spec (search needs) (search needs) (search needs) (search needs) (search needs) (search needs) returns (search needs) paid-back-requires returns-2)

@@ -18,4 +18,4 @@ returns-4 : tie.Need-returns-4
 returns-4 c = search (clear-unsound, is-unsound)
 
 pub clear-verdict-spec : {M : Type 1} → statement M
-clear-verdict-spec = tie.close (tie.spec (λ c κs. search needs) (λ c κs. search needs) (λ c κs. search needs) returns (λ c κs. search needs) (λ c κs. search needs) returns-2 (λ c κs. search needs) returns-3 (λ c κs. search needs) returns-4)
+clear-verdict-spec = tie.close (tie.spec (search needs) (search needs) (search needs) returns (search needs) (search needs) returns-2 (search needs) returns-3 (search needs) returns-4)

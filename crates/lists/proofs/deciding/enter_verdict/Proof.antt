@@ -18,4 +18,4 @@ returns-3 : tie.Need-returns-3
 returns-3 c = search (settles-unsound, is-unsound, tested)
 
 pub enter-verdict-spec : {M : Type 1} → statement M
-enter-verdict-spec = tie.close (tie.spec (λ c κs. search needs) (λ c κs. search needs) (λ c κs. search needs) returns enter-requires (λ c κs. search needs) (λ c κs. search needs) returns-2 (λ c κs. search needs) returns-3)
+enter-verdict-spec = tie.close (tie.spec (search needs) (search needs) (search needs) returns enter-requires (search needs) (search needs) returns-2 (search needs) returns-3)

@@ -14,4 +14,4 @@ returns-3 : tie.Need-returns-3
 returns-3 c = search (fresh-unsound, is-unsound)
 
 pub fresh-verdict-spec : {M : Type 1} → statement M
-fresh-verdict-spec = tie.close (tie.spec (λ c κs. search needs) (λ c κs. search needs) returns (λ c κs. search needs) returns-2 (λ c κs. search needs) returns-3)
+fresh-verdict-spec = tie.close (tie.spec (search needs) (search needs) returns (search needs) returns-2 (search needs) returns-3)

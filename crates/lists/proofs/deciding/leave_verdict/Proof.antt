@@ -15,4 +15,4 @@ returns-3 : tie.Need-returns-3
 returns-3 c = search (settles-unsound, is-unsound, tested)
 
 pub leave-verdict-spec : {M : Type 1} → statement M
-leave-verdict-spec = tie.close (tie.spec (λ c κs. search needs) (λ c κs. search needs) (λ c κs. search needs) returns (λ c κs. search needs) (λ c κs. search needs) (λ c κs. search needs) returns-2 (λ c κs. search needs) returns-3)
+leave-verdict-spec = tie.close (tie.spec (search needs) (search needs) (search needs) returns (search needs) (search needs) (search needs) returns-2 (search needs) returns-3)

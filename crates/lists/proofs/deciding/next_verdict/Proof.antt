@@ -30,4 +30,4 @@ returns-5 : tie.Need-returns-5
 returns-5 c = search (decided-unsound, is-unsound)
 
 pub next-verdict-spec : {M : Type 1} → statement M
-next-verdict-spec = tie.close (tie.spec (λ c κs. search needs) (λ c κs. search needs) (λ c κs. search needs) returns sub-if3 (λ c κs. search needs) returns-2 (λ c κs. search needs) (λ c κs. search needs) (λ c κs. search needs) writes-requires returns-3 passes-requires returns-4 (λ c κs. search needs) returns-5)
+next-verdict-spec = tie.close (tie.spec (search needs) (search needs) (search needs) returns sub-if3 (search needs) returns-2 (search needs) (search needs) (search needs) writes-requires returns-3 passes-requires returns-4 (search needs) returns-5)

@@ -24,4 +24,4 @@ returns-4 : tie.Need-returns-4
 returns-4 c = search (settles-unsound, is-unsound, tested)
 
 pub skip-verdict-spec : {M : Type 1} → statement M
-skip-verdict-spec = tie.close (tie.spec (λ c κs. search needs) (λ c κs. search needs) (λ c κs. search needs) returns sub-if3 (λ c κs. search needs) returns-2 passes-requires returns-3 (λ c κs. search needs) returns-4)
+skip-verdict-spec = tie.close (tie.spec (search needs) (search needs) (search needs) returns sub-if3 (search needs) returns-2 passes-requires returns-3 (search needs) returns-4)

@@ -25,4 +25,4 @@ returns-4 : tie.Need-returns-4
 returns-4 c = search (sync-unsound, is-unsound)
 
 pub sync-verdict-spec : {M : Type 1} → statement M
-sync-verdict-spec = tie.close (tie.spec (λ c κs. search needs) (λ c κs. search needs) sub-n (λ c κs. search needs) (λ c κs. search needs) writes-requires returns (λ c κs. search needs) returns-2 (λ c κs. search needs) returns-3 (λ c κs. search needs) returns-4)
+sync-verdict-spec = tie.close (tie.spec (search needs) (search needs) sub-n (search needs) (search needs) writes-requires returns (search needs) returns-2 (search needs) returns-3 (search needs) returns-4)

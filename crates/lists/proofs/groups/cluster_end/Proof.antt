@@ -16,5 +16,4 @@ returns : tie.Need-returns
 returns c = c .equal-end .ensures ∙ rw (c .before .cluster-at .ensures)
 
 pub cluster-end-spec : {M : Type 1} → statement M
-cluster-end-spec =
-    tie.close (tie.spec add-equal-end cluster-at-requires equal-end-requires returns)
+cluster-end-spec = tie.close (tie.spec add-equal-end cluster-at-requires equal-end-requires returns)

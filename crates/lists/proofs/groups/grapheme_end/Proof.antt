@@ -48,16 +48,4 @@ returns-2 : tie.Need-returns-2 Inv-loop μ-loop
 returns-2 c = ahead-done (c .before .loop .inv) (c .loop-test .left)
 
 pub grapheme-end-spec : {M : Type 1} → statement M
-grapheme-end-spec =
-    tie.close
-    (tie.spec
-    Inv-loop
-    μ-loop
-    add-i
-    loop-holds
-    key-at-requires
-    returns
-    add-i-2
-    loop-less
-    loop-again
-    returns-2)
+grapheme-end-spec = tie.close (tie.spec Inv-loop μ-loop add-i loop-holds key-at-requires returns add-i-2 loop-less loop-again returns-2)

@@ -5,18 +5,6 @@ use borrow.Author.Needs.{needs}
 use Rattle.lists.proofs.items.gone.Statement.{statement}
 use Rattle.lists.proofs.items.gone.Tie as tie
 
-enum-told : tie.Need-enum-told
-enum-told c = search needs
-
-enum-told-2 : tie.Need-enum-told-2
-enum-told-2 c = search needs
-
-enum-told-3 : tie.Need-enum-told-3
-enum-told-3 c = search needs
-
-enum-told-4 : tie.Need-enum-told-4
-enum-told-4 c = search needs
-
 returns : tie.Need-returns
 returns c = sym (gone-by _ Plain (c .enum-told .given .1))
 
@@ -30,6 +18,4 @@ returns-4 : tie.Need-returns-4
 returns-4 c = sym (gone-by _ Spoiled (c .enum-told4 .given .1))
 
 pub gone-spec : {M : Type 1} → statement M
-gone-spec =
-    tie.close
-    (tie.spec enum-told enum-told-2 enum-told-3 enum-told-4 returns returns-2 returns-3 returns-4)
+gone-spec = tie.close (tie.spec (search needs) (search needs) (search needs) (search needs) returns returns-2 returns-3 returns-4)

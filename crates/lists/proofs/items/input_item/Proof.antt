@@ -5,9 +5,6 @@ use borrow.Author.Needs.{needs}
 use Rattle.lists.proofs.items.input_item.Statement.{statement}
 use Rattle.lists.proofs.items.input_item.Tie as tie
 
-gone-requires : tie.Need-gone-requires
-gone-requires c κs = search needs
-
 sub-n : tie.Need-sub-n
 sub-n c = omega (arith, c .before .gone .ensures, gone-within _ _ _ (c .before .before .before .before .pre))
 
@@ -17,15 +14,6 @@ position-item-requires c κs = places-in _ _ _ (c .before .before .before .befor
 returns : tie.Need-returns
 returns c = placed-at _ _ _ (c .before .before .before .before .before .before .pre) _ (c .before .before .before .gone .ensures) (c .before .if1 .taken) (c .position-item .ensures)
 
-add-get : tie.Need-add-get
-add-get c = search needs
-
-get-requires : tie.Need-get-requires
-get-requires c κs = search needs
-
-add-if2 : tie.Need-add-if2
-add-if2 c = search needs
-
 returns-2 : tie.Need-returns-2
 returns-2 c = passed-at _ _ _ (c .before .before .before .before .before .before .before .before .pre) _ (c .before .before .before .before .before .gone .ensures) (c .before .before .get .ensures) (c .before .before .before .if1 .left) (c .if2 .taken)
 
@@ -33,15 +21,4 @@ returns-3 : tie.Need-returns-3
 returns-3 c = rest-at _ _ _ (c .before .before .before .before .before .before .before .before .pre) _ (c .before .before .before .before .before .gone .ensures) (c .before .before .get .ensures) (c .before .before .before .if1 .left) (c .if2 .left)
 
 pub input-item-spec : {M : Type 1} → statement M
-input-item-spec =
-    tie.close
-    (tie.spec
-    gone-requires
-    sub-n
-    position-item-requires
-    returns
-    add-get
-    get-requires
-    add-if2
-    returns-2
-    returns-3)
+input-item-spec = tie.close (tie.spec (search needs) sub-n position-item-requires returns (search needs) (search needs) (search needs) returns-2 returns-3)

@@ -5,9 +5,6 @@ use borrow.Author.Needs.{needs}
 use Rattle.lists.proofs.items.item.Statement.{statement}
 use Rattle.lists.proofs.items.item.Tie as tie
 
-is-sound-requires : tie.Need-is-sound-requires
-is-sound-requires c κs = search needs
-
 item-in-requires : tie.Need-item-in-requires
 item-in-requires c κs = held-turned _ _ _ (sound-held _ _ _ (sym (c .before .before .is-sound .ensures .is) ∙ c .before .if1 .taken))
 
@@ -24,6 +21,4 @@ returns-3 : tie.Need-returns-3
 returns-3 c = none-unsound _ _ _ _ (sym (c .before .is-sound .ensures .is) ∙ c .if1 .left)
 
 pub item-spec : {M : Type 1} → statement M
-item-spec =
-    tie.close
-    (tie.spec is-sound-requires item-in-requires returns item-in-requires-2 returns-2 returns-3)
+item-spec = tie.close (tie.spec (search needs) item-in-requires returns item-in-requires-2 returns-2 returns-3)

@@ -6,17 +6,8 @@ use borrow.Author.Needs.{needs}
 use Rattle.lists.proofs.items.item_count.Statement.{statement}
 use Rattle.lists.proofs.items.item_count.Tie as tie
 
-is-sound-requires : tie.Need-is-sound-requires
-is-sound-requires c κs = search needs
-
-gone-requires : tie.Need-gone-requires
-gone-requires c κs = search needs
-
 sub-n : tie.Need-sub-n
 sub-n c = omega (arith, c .before .gone .ensures, gone-within _ _ _ (sound-held _ _ _ (sym (c .before .before .before .is-sound .ensures .is) ∙ c .before .before .if1 .taken)))
-
-have-positions-requires : tie.Need-have-positions-requires
-have-positions-requires c κs = search needs
 
 add-result : tie.Need-add-result
 add-result c = let v = sound-held _ _ _ (sym (c .before .before .before .before .before .is-sound .ensures .is) ∙ c .before .before .before .before .if1 .taken) in record { fits = omega arith }
@@ -34,15 +25,4 @@ returns-3 : tie.Need-returns-3
 returns-3 c = none-unsound _ _ _ _ (sym (c .before .is-sound .ensures .is) ∙ c .if1 .left)
 
 pub item-count-spec : {M : Type 1} → statement M
-item-count-spec =
-    tie.close
-    (tie.spec
-    is-sound-requires
-    gone-requires
-    sub-n
-    have-positions-requires
-    add-result
-    returns
-    add-result-2
-    returns-2
-    returns-3)
+item-count-spec = tie.close (tie.spec (search needs) (search needs) sub-n (search needs) add-result returns add-result-2 returns-2 returns-3)

@@ -3,9 +3,6 @@ use borrow.Author.Needs.{needs}
 use Rattle.lists.proofs.items.item_in.Statement.{statement}
 use Rattle.lists.proofs.items.item_in.Tie as tie
 
-input-item-requires : tie.Need-input-item-requires
-input-item-requires c κs = search needs
-
 returns : tie.Need-returns
 returns c = item-after _ _ _ (c .before .before .before .before .pre) _ (c .before .if1 .taken) (c .input-item .ensures)
 
@@ -15,13 +12,8 @@ get-requires c κs = apart-room _ _ _ (c .before .before .before .before .pre) _
 returns-2 : tie.Need-returns-2
 returns-2 c = done-apart _ _ _ (c .before .before .before .before .before .pre) _ (c .before .before .if1 .left) (c .before .if2 .taken) (c .get .ensures)
 
-get-requires-2 : tie.Need-get-requires-2
-get-requires-2 c κs = search needs
-
 returns-3 : tie.Need-returns-3
 returns-3 c = done-within _ _ _ (c .before .before .before .before .before .pre) _ (c .before .before .if1 .left) (c .before .if2 .left) (c .get2 .ensures)
 
 pub item-in-spec : {M : Type 1} → statement M
-item-in-spec =
-    tie.close
-    (tie.spec input-item-requires returns get-requires returns-2 get-requires-2 returns-3)
+item-in-spec = tie.close (tie.spec (λ c κs. search needs) returns get-requires returns-2 (search needs) returns-3)

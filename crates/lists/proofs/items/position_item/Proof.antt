@@ -5,9 +5,6 @@ use borrow.Author.Needs.{needs}
 use Rattle.lists.proofs.items.position_item.Statement.{statement}
 use Rattle.lists.proofs.items.position_item.Tie as tie
 
-have-positions-requires : tie.Need-have-positions-requires
-have-positions-requires c κs = search needs
-
 get-requires : tie.Need-get-requires
 get-requires c κs = omega (arith, c .before .before .before .before .before .pre, c .if2 .taken)
 
@@ -17,9 +14,5 @@ returns c = place-at _ _ _ _ (sym (c .before .before .before .before .have-posit
 returns-2 : tie.Need-returns-2
 returns-2 c = place-past _ _ _ _ (sym (c .before .before .before .have-positions .ensures) ∙ c .before .before .if1 .taken) (c .if2 .left) (c .before .before .before .before .before .pre)
 
-returns-3 : tie.Need-returns-3
-returns-3 c = search needs
-
 pub position-item-spec : {M : Type 1} → statement M
-position-item-spec =
-    tie.close (tie.spec have-positions-requires get-requires returns returns-2 returns-3)
+position-item-spec = tie.close (tie.spec (search needs) get-requires returns returns-2 (λ c. search needs))

@@ -37,15 +37,4 @@ returns : tie.Need-returns Inv-loop μ-loop
 returns c = editing-done (c .before .loop .inv) (c .loop-test .left)
 
 pub fill-masks-spec : {M : Type 1} → statement M
-fill-masks-spec =
-    tie.close
-    (tie.spec
-    Inv-loop
-    μ-loop
-    loop-holds
-    set-mask-requires
-    add-i
-    loop-less
-    loop-again
-    same-length
-    returns)
+fill-masks-spec = tie.close (tie.spec Inv-loop μ-loop loop-holds set-mask-requires add-i loop-less loop-again same-length returns)

@@ -37,6 +37,4 @@ returns : tie.Need-returns Inv-loop μ-loop
 returns c = joining-done (c .before .loop .inv) (c .loop-test .left)
 
 pub joined-masks-spec : {M : Type 1} → statement M
-joined-masks-spec =
-    tie.close
-    (tie.spec Inv-loop μ-loop loop-holds sub-i mask-at-requires loop-less loop-again returns)
+joined-masks-spec = tie.close (tie.spec Inv-loop μ-loop loop-holds sub-i mask-at-requires loop-less loop-again returns)

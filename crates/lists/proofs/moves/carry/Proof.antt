@@ -13,4 +13,4 @@ returns-3 : tie.Need-returns-3
 returns-3 c = search carried-within
 
 pub carry-spec : {M : Type 1} → statement M
-carry-spec = tie.close (tie.spec (λ c κs. search needs) (λ c. search needs) (λ c. search needs) returns returns-2 (λ c κs. search needs) (λ c. search needs) returns-3)
+carry-spec = tie.close (tie.spec (search needs) (search needs) (search needs) returns returns-2 (search needs) (search needs) returns-3)

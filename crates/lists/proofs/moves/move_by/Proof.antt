@@ -10,4 +10,4 @@ returns-2 : tie.Need-returns-2
 returns-2 c = search sided-first
 
 pub move-by-spec : {M : Type 1} → statement M
-move-by-spec = tie.close (tie.spec (λ c κs. search needs) (λ c κs. search needs) (λ c. search needs) (λ c. search needs) returns (λ c. search needs) (λ c. search needs) returns-2)
+move-by-spec = tie.close (tie.spec (search needs) (search needs) (search needs) (search needs) returns (search needs) (search needs) returns-2)

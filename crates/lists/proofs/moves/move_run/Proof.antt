@@ -1,4 +1,4 @@
-use Rattle.lists.proofs.MoveCalls.{moved-forth, moved-back, back-carriable}
+use Rattle.lists.proofs.ForwardCalls.{moved-forth, moved-back, back-carriable}
 use borrow.Author.Needs.{needs}
 use Rattle.lists.proofs.moves.move_run.Statement.{statement}
 use Rattle.lists.proofs.moves.move_run.Tie as tie
@@ -13,4 +13,4 @@ returns-2 : tie.Need-returns-2
 returns-2 c = search (moved-back, needs)
 
 pub move-run-spec : {M : Type 1} → statement M
-move-run-spec = tie.close (tie.spec (λ c. search needs) (λ c κs. search needs) (λ c. search needs) (λ c. search needs) returns (λ c. search needs) (λ c. search needs) (λ c. search needs) (λ c κs. search needs) (λ c. search needs) carry-back-requires (λ c. search needs) (λ c. search needs) returns-2)
+move-run-spec = tie.close (tie.spec (search needs) (search needs) (search needs) (search needs) returns (search needs) (search needs) (search needs) (search needs) (search needs) carry-back-requires (search needs) (search needs) returns-2)

@@ -7,4 +7,4 @@ returns : tie.Need-returns
 returns c = search shifted-none
 
 pub shift-forward-spec : {M : Type 1} → statement M
-shift-forward-spec = tie.close (tie.spec returns (λ c κs. search needs) (λ c. search needs) (λ c. search needs))
+shift-forward-spec = tie.close (tie.spec returns (search needs) (search needs) (λ c. search needs))

@@ -11,4 +11,4 @@ returns-2 : tie.Need-returns-2
 returns-2 c = search (sided-first, zeroed)
 
 pub zero-positions-by-spec : {M : Type 1} → statement M
-zero-positions-by-spec = tie.close (tie.spec (λ c κs. search needs) (λ c κs. search needs) (λ c. search needs) returns (λ c. search needs) returns-2)
+zero-positions-by-spec = tie.close (tie.spec (search needs) (search needs) (search needs) returns (search needs) returns-2)

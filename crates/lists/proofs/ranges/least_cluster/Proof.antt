@@ -42,16 +42,4 @@ returns : tie.Need-returns Inv-loop μ-loop
 returns c = lowest-done (c .before .loop .inv) (c .loop-test .left)
 
 pub least-cluster-spec : {M : Type 1} → statement M
-least-cluster-spec =
-    tie.close
-    (tie.spec
-    Inv-loop
-    μ-loop
-    loop-holds
-    sub-i
-    cluster-at-requires
-    loop-less
-    loop-again
-    loop-less-2
-    loop-again-2
-    returns)
+least-cluster-spec = tie.close (tie.spec Inv-loop μ-loop loop-holds sub-i cluster-at-requires loop-less loop-again loop-less-2 loop-again-2 returns)

@@ -37,15 +37,4 @@ returns : tie.Need-returns Inv-loop μ-loop
 returns c = editing-done (c .before .loop .inv) (c .loop-test .left)
 
 pub or-masks-spec : {M : Type 1} → statement M
-or-masks-spec =
-    tie.close
-    (tie.spec
-    Inv-loop
-    μ-loop
-    loop-holds
-    or-mask-requires
-    add-i
-    loop-less
-    loop-again
-    same-length
-    returns)
+or-masks-spec = tie.close (tie.spec Inv-loop μ-loop loop-holds or-mask-requires add-i loop-less loop-again same-length returns)

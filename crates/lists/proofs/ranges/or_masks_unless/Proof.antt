@@ -37,15 +37,4 @@ returns : tie.Need-returns Inv-loop μ-loop
 returns c = editing-done (c .before .loop .inv) (c .loop-test .left)
 
 pub or-masks-unless-spec : {M : Type 1} → statement M
-or-masks-unless-spec =
-    tie.close
-    (tie.spec
-    Inv-loop
-    μ-loop
-    loop-holds
-    or-mask-unless-requires
-    add-i
-    loop-less
-    loop-again
-    same-length
-    returns)
+or-masks-unless-spec = tie.close (tie.spec Inv-loop μ-loop loop-holds or-mask-unless-requires add-i loop-less loop-again same-length returns)

@@ -37,15 +37,4 @@ returns : tie.Need-returns Inv-loop μ-loop
 returns c = editing-done (c .before .loop .inv) (c .loop-test .left)
 
 pub set-clusters-spec : {M : Type 1} → statement M
-set-clusters-spec =
-    tie.close
-    (tie.spec
-    Inv-loop
-    μ-loop
-    loop-holds
-    set-cluster-requires
-    add-i
-    loop-less
-    loop-again
-    same-length
-    returns)
+set-clusters-spec = tie.close (tie.spec Inv-loop μ-loop loop-holds set-cluster-requires add-i loop-less loop-again same-length returns)

@@ -48,17 +48,4 @@ returns : tie.Need-returns Inv-loop μ-loop
 returns c = turning-done (c .before .loop .inv .0) (c .loop-test .left)
 
 pub reverse-positions-spec : {M : Type 1} → statement M
-reverse-positions-spec =
-    tie.close
-    (tie.spec
-    Inv-loop
-    μ-loop
-    loop-holds
-    add-loop
-    sub-j
-    swap-positions-requires
-    add-i
-    loop-less
-    loop-again
-    same-length
-    returns)
+reverse-positions-spec = tie.close (tie.spec Inv-loop μ-loop loop-holds add-loop sub-j swap-positions-requires add-i loop-less loop-again same-length returns)

@@ -6,23 +6,11 @@ use borrow.Author.Needs.{needs}
 use Rattle.lists.proofs.reversals.swap_glyphs.Statement.{statement}
 use Rattle.lists.proofs.reversals.swap_glyphs.Tie as tie
 
-get-requires : tie.Need-get-requires
-get-requires c κs = search needs
-
-get-requires-2 : tie.Need-get-requires-2
-get-requires-2 c κs = search needs
-
-put-requires : tie.Need-put-requires
-put-requires c κs = search needs
-
 put-requires-2 : tie.Need-put-requires-2
 put-requires-2 c κs =
     let put = c .before .before .before in
     let s = put .before .before .before .before .before .before .before in
     omega (arith, s .pre .1, glyphs-same (put .put .last .0) (s .args .ws .now) (put .put .kept .0))
-
-same-length : tie.Need-same-length
-same-length c = search needs
 
 returns : tie.Need-returns
 returns c =
@@ -33,6 +21,4 @@ returns c =
     exchange-is (glyphs (s .args .ws .now)) (glyphs (put .put .last .0)) (s .args .i) (s .args .j) (put .put .ensures) (last .put2 .ensures) (get .before .before .get .ensures) (get .get2 .ensures)
 
 pub swap-glyphs-spec : {M : Type 1} → statement M
-swap-glyphs-spec =
-    tie.close
-    (tie.spec get-requires get-requires-2 put-requires put-requires-2 same-length returns)
+swap-glyphs-spec = tie.close (tie.spec (search needs) (search needs) (search needs) put-requires-2 (search needs) returns)

@@ -3,11 +3,8 @@ use borrow.Author.Needs.{needs}
 use Rattle.lists.proofs.state.fresh_buffer.Statement.{statement}
 use Rattle.lists.proofs.state.fresh_buffer.Tie as tie
 
-fresh-requires : tie.Need-fresh-requires
-fresh-requires c κs = search needs
-
 returns : tie.Need-returns
 returns c = fresh-is _ _ _ (c .fresh .ensures)
 
 pub fresh-buffer-spec : {M : Type 1} → statement M
-fresh-buffer-spec = tie.close (tie.spec fresh-requires returns)
+fresh-buffer-spec = tie.close (tie.spec (search needs) returns)

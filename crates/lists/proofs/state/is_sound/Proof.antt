@@ -5,15 +5,6 @@ use borrow.Author.Needs.{needs}
 use Rattle.lists.proofs.state.is_sound.Statement.{statement}
 use Rattle.lists.proofs.state.is_sound.Tie as tie
 
-rightly-lent-requires : tie.Need-rightly-lent-requires
-rightly-lent-requires c κs = search needs
-
-capacity-requires : tie.Need-capacity-requires
-capacity-requires c κs = search needs
-
-in-order-requires : tie.Need-in-order-requires
-in-order-requires c κs = search needs
-
 returns : tie.Need-returns
 returns c = record { is = c .in-order .ensures ∙ (ap (inOrder _) (c .before .capacity .ensures) ∙ sym (sound-is _ _ _ (sym (c .before .before .before .rightly-lent .ensures) ∙ c .before .before .if1 .taken))) }
 
@@ -21,6 +12,4 @@ returns-2 : tie.Need-returns-2
 returns-2 c = record { is = sym (sound-no _ _ _ (sym (c .before .rightly-lent .ensures) ∙ c .if1 .left)) }
 
 pub is-sound-spec : {M : Type 1} → statement M
-is-sound-spec =
-    tie.close
-    (tie.spec rightly-lent-requires capacity-requires in-order-requires returns returns-2)
+is-sound-spec = tie.close (tie.spec (search needs) (search needs) (search needs) returns returns-2)

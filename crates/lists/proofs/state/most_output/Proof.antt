@@ -4,9 +4,6 @@ use borrow.Author.Needs.{needs}
 use Rattle.lists.proofs.state.most_output.Statement.{statement}
 use Rattle.lists.proofs.state.most_output.Tie as tie
 
-have-output-requires : tie.Need-have-output-requires
-have-output-requires c κs = search needs
-
 returns : tie.Need-returns
 unfolding mostOutput
 returns c = simp (sym (c .before .before .have-output .ensures) ∙ c .before .if1 .taken, c .if2 .taken)
@@ -20,4 +17,4 @@ unfolding mostOutput
 returns-3 c = simp (sym (c .before .have-output .ensures) ∙ c .if1 .left)
 
 pub most-output-spec : {M : Type 1} → statement M
-most-output-spec = tie.close (tie.spec have-output-requires returns returns-2 returns-3)
+most-output-spec = tie.close (tie.spec (search needs) returns returns-2 returns-3)

@@ -7,4 +7,4 @@ returns : tie.Need-returns
 returns c = search leaves-failed
 
 pub fails-spec : {M : Type 1} → statement M
-fails-spec = tie.close (tie.spec (λ c κs. search needs) (λ c κs. search needs) (λ c κs. search needs) returns)
+fails-spec = tie.close (tie.spec (search needs) (search needs) (search needs) returns)

@@ -7,4 +7,4 @@ returns : tie.Need-returns
 returns c = search leaves-as
 
 pub passes-spec : {M : Type 1} → statement M
-passes-spec = tie.close (tie.spec (λ c. search needs) (λ c κs. search needs) (λ c κs. search needs) returns)
+passes-spec = tie.close (tie.spec (search needs) (search needs) (search needs) returns)

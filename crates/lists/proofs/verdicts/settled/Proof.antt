@@ -10,4 +10,4 @@ returns-2 : tie.Need-returns-2
 returns-2 c = search settled-within
 
 pub settled-spec : {M : Type 1} → statement M
-settled-spec = tie.close (tie.spec (λ c κs. search needs) (λ c κs. search needs) (λ c κs. search needs) returns returns-2)
+settled-spec = tie.close (tie.spec (search needs) (search needs) (search needs) returns returns-2)

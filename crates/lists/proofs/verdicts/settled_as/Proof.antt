@@ -10,4 +10,4 @@ returns-2 : tie.Need-returns-2
 returns-2 c = search settled-still
 
 pub settled-as-spec : {M : Type 1} → statement M
-settled-as-spec = tie.close (tie.spec (λ c κs. search needs) returns (λ c κs. search needs) returns-2)
+settled-as-spec = tie.close (tie.spec (search needs) returns (search needs) returns-2)
