@@ -14,7 +14,7 @@ abbrev μ-loop : tie.MeasureT-loop
 μ-loop ws₀ s e i₀ ws i = e - i
 
 loop-holds : tie.Need-loop-holds Inv-loop μ-loop
-loop-holds c = filling-none (c .before .pre .0) (c .before .pre .1)
+loop-holds c = filling-none (search) (search)
 
 blank-requires : tie.Need-blank-requires Inv-loop μ-loop
 blank-requires c κs = tt

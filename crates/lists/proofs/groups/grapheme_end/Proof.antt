@@ -45,7 +45,7 @@ loop-again c =
     ahead-more (at .loop .inv) (c .before .before .loop-test .taken) (rw (length-words (key _ _) (glyphs ws)) (at .before .before .pre .1)) _ (c .before .key-at .ensures ∙ word-of (key _ _) (glyphs ws) _ 4294967295 (omega arith)) (ap not (ne-eqb _ _ (c .if1 .left)))
 
 returns-2 : tie.Need-returns-2 Inv-loop μ-loop
-returns-2 c = ahead-done (c .before .loop .inv) (c .loop-test .left)
+returns-2 c = ahead-done (search) (c .loop-test .left)
 
 pub grapheme-end-spec : {M : Type 1} → statement M
 grapheme-end-spec = tie.close (tie.spec Inv-loop μ-loop add-i loop-holds key-at-requires returns add-i-2 loop-less loop-again returns-2)

@@ -6,19 +6,19 @@ use Rattle.lists.proofs.items.input_item.Statement.{statement}
 use Rattle.lists.proofs.items.input_item.Tie as tie
 
 sub-n : tie.Need-sub-n
-sub-n c = omega (arith, c .before .gone .ensures, gone-within _ _ _ (c .before .before .before .before .pre))
+sub-n c = omega (arith, gone-within)
 
 position-item-requires : tie.Need-position-item-requires
 position-item-requires c κs = places-in _ _ _ (c .before .before .before .before .before .pre)
 
 returns : tie.Need-returns
-returns c = placed-at _ _ _ (c .before .before .before .before .before .before .pre) _ (c .before .before .before .gone .ensures) (c .before .if1 .taken) (c .position-item .ensures)
+returns c = placed-at _ _ _ (search) _ (search) (search) (c .position-item .ensures)
 
 returns-2 : tie.Need-returns-2
-returns-2 c = passed-at _ _ _ (c .before .before .before .before .before .before .before .before .pre) _ (c .before .before .before .before .before .gone .ensures) (c .before .before .get .ensures) (c .before .before .before .if1 .left) (c .if2 .taken)
+returns-2 c = passed-at _ _ _ (search) _ (search) (search) (search) (c .if2 .taken)
 
 returns-3 : tie.Need-returns-3
-returns-3 c = rest-at _ _ _ (c .before .before .before .before .before .before .before .before .pre) _ (c .before .before .before .before .before .gone .ensures) (c .before .before .get .ensures) (c .before .before .before .if1 .left) (c .if2 .left)
+returns-3 c = rest-at _ _ _ (search) _ (search) (search) (search) (c .if2 .left)
 
 pub input-item-spec : {M : Type 1} → statement M
 input-item-spec = tie.close (tie.spec (search needs) sub-n position-item-requires returns (search needs) (search needs) (search needs) returns-2 returns-3)

@@ -4,16 +4,16 @@ use Rattle.lists.proofs.items.item_in.Statement.{statement}
 use Rattle.lists.proofs.items.item_in.Tie as tie
 
 returns : tie.Need-returns
-returns c = item-after _ _ _ (c .before .before .before .before .pre) _ (c .before .if1 .taken) (c .input-item .ensures)
+returns c = item-after _ _ _ (search) _ (search) (c .input-item .ensures)
 
 get-requires : tie.Need-get-requires
 get-requires c κs = apart-room _ _ _ (c .before .before .before .before .pre) _ (c .before .if1 .left)
 
 returns-2 : tie.Need-returns-2
-returns-2 c = done-apart _ _ _ (c .before .before .before .before .before .pre) _ (c .before .before .if1 .left) (c .before .if2 .taken) (c .get .ensures)
+returns-2 c = done-apart _ _ _ (search) _ (search) (search) (c .get .ensures)
 
 returns-3 : tie.Need-returns-3
-returns-3 c = done-within _ _ _ (c .before .before .before .before .before .pre) _ (c .before .before .if1 .left) (c .before .if2 .left) (c .get2 .ensures)
+returns-3 c = done-within _ _ _ (search) _ (search) (search) (c .get2 .ensures)
 
 pub item-in-spec : {M : Type 1} → statement M
 item-in-spec = tie.close (tie.spec (λ c κs. search needs) returns get-requires returns-2 (search needs) returns-3)

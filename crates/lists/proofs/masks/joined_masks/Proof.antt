@@ -16,7 +16,7 @@ abbrev μ-loop : tie.MeasureT-loop
 μ-loop ws s e x₀ i₀ x i = i
 
 loop-holds : tie.Need-loop-holds Inv-loop μ-loop
-loop-holds c = joining-none (c .before .pre .0)
+loop-holds c = joining-none (search)
 
 sub-i : tie.Need-sub-i Inv-loop μ-loop
 sub-i c = omega arith

@@ -16,7 +16,7 @@ abbrev μ-loop : tie.MeasureT-loop
 μ-loop ws e len cluster i₀ i = len - i
 
 loop-holds : tie.Need-loop-holds Inv-loop μ-loop
-loop-holds c = ahead-none (c .before .pre .0)
+loop-holds c = ahead-none (search)
 
 cluster-at-requires : tie.Need-cluster-at-requires Inv-loop μ-loop
 cluster-at-requires c κs = omega arith
@@ -38,7 +38,7 @@ loop-again c =
     ahead-more (at .loop .inv) (c .before .before .loop-test .taken) (rw (length-clusters (glyphs (at .before .before .args .ws .now))) (at .before .before .pre .1)) _ (c .before .cluster-at .ensures) (eq-eqb _ _ (c .if1 .left))
 
 returns-2 : tie.Need-returns-2 Inv-loop μ-loop
-returns-2 c = ahead-done (c .before .loop .inv) (c .loop-test .left)
+returns-2 c = ahead-done (search) (c .loop-test .left)
 
 pub equal-end-spec : {M : Type 1} → statement M
 equal-end-spec = tie.close (tie.spec Inv-loop μ-loop loop-holds cluster-at-requires returns add-i loop-less loop-again returns-2)

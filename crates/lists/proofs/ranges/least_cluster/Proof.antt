@@ -14,7 +14,7 @@ abbrev μ-loop : tie.MeasureT-loop
 μ-loop ws s e m₀ i₀ m i = i
 
 loop-holds : tie.Need-loop-holds Inv-loop μ-loop
-loop-holds c = lowest-none (c .before .pre .0)
+loop-holds c = lowest-none (search)
 
 sub-i : tie.Need-sub-i Inv-loop μ-loop
 sub-i c = omega arith

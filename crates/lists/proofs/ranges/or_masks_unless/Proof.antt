@@ -13,7 +13,7 @@ abbrev μ-loop : tie.MeasureT-loop
 μ-loop ws₀ s e cluster bits i₀ ws i = e - i
 
 loop-holds : tie.Need-loop-holds Inv-loop μ-loop
-loop-holds c = editing-none (c .before .pre .0) (c .before .pre .1)
+loop-holds c = editing-none (search) (search)
 
 or-mask-unless-requires : tie.Need-or-mask-unless-requires Inv-loop μ-loop
 or-mask-unless-requires c κs = omega arith
@@ -34,7 +34,7 @@ same-length : tie.Need-same-length Inv-loop μ-loop
 same-length c = c .before .loop .inv .len
 
 returns : tie.Need-returns Inv-loop μ-loop
-returns c = editing-done (c .before .loop .inv) (c .loop-test .left)
+returns c = editing-done (search) (c .loop-test .left)
 
 pub or-masks-unless-spec : {M : Type 1} → statement M
 or-masks-unless-spec = tie.close (tie.spec Inv-loop μ-loop loop-holds or-mask-unless-requires add-i loop-less loop-again same-length returns)

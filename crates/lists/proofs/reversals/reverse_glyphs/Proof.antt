@@ -16,7 +16,7 @@ abbrev μ-loop : tie.MeasureT-loop
 μ-loop ws₀ s e i₀ j₀ ws i j = j - i
 
 loop-holds : tie.Need-loop-holds Inv-loop μ-loop
-loop-holds c = (turning-none (c .before .pre .0) (c .before .pre .1), refl)
+loop-holds c = (turning-none (search) (search), refl)
 
 add-loop : tie.Need-add-loop Inv-loop μ-loop
 add-loop c = omega (arith, c .loop .inv .0 .order, c .loop .inv .0 .fits, glyphs-fit (c .loop .ws))
@@ -45,7 +45,7 @@ same-length : tie.Need-same-length Inv-loop μ-loop
 same-length c = c .before .loop .inv .1
 
 returns : tie.Need-returns Inv-loop μ-loop
-returns c = turning-done (c .before .loop .inv .0) (c .loop-test .left)
+returns c = turning-done (search) (c .loop-test .left)
 
 pub reverse-glyphs-spec : {M : Type 1} → statement M
 reverse-glyphs-spec = tie.close (tie.spec Inv-loop μ-loop loop-holds add-loop sub-j swap-glyphs-requires add-i loop-less loop-again same-length returns)
