@@ -12,29 +12,11 @@ Inv-loop b first second n t₀ above₀ k₀ t above k = Counting b first second
 abbrev μ-loop : tie.MeasureT-loop
 μ-loop b first second n t₀ above₀ k₀ t above k = n - k
 
-item-count-requires : tie.Need-item-count-requires Inv-loop μ-loop
-item-count-requires c κs = search needs
-
-entry-of-requires : tie.Need-entry-of-requires Inv-loop μ-loop
-entry-of-requires c κs = search needs
-
 loop-holds : tie.Need-loop-holds Inv-loop μ-loop
 loop-holds c = search counting-none
 
-item-requires : tie.Need-item-requires Inv-loop μ-loop
-item-requires c κs = search needs
-
-entry-requires : tie.Need-entry-requires Inv-loop μ-loop
-entry-requires c κs = search needs
-
 count-requires : tie.Need-count-requires Inv-loop μ-loop
 count-requires c κs = search counting-room
-
-add-k : tie.Need-add-k Inv-loop μ-loop
-add-k c = search needs
-
-loop-less : tie.Need-loop-less Inv-loop μ-loop
-loop-less c = omega arith
 
 loop-again : tie.Need-loop-again Inv-loop μ-loop
 loop-again c = search counting-more
@@ -45,16 +27,5 @@ returns c = search counting-all
 pub totals-spec : {M : Type 1} → statement M
 totals-spec =
     tie.close
-    (tie.spec
-    Inv-loop
-    μ-loop
-    item-count-requires
-    entry-of-requires
-    loop-holds
-    item-requires
-    entry-requires
-    count-requires
-    add-k
-    loop-less
-    loop-again
-    returns)
+    (tie.spec Inv-loop μ-loop (search needs) (search needs) loop-holds (search needs) (search needs)
+    count-requires (search needs) (omega arith) loop-again returns)

@@ -7,20 +7,8 @@ use borrow.Author.Needs.{needs}
 use Rattle.commands.proofs.digits.put_signed.Statement.{statement}
 use Rattle.commands.proofs.digits.put_signed.Tie as tie
 
-is-negative-requires : tie.Need-is-negative-requires
-is-negative-requires c κs = search needs
-
-put-requires : tie.Need-put-requires
-put-requires c κs = search needs
-
-sub-put-decimal : tie.Need-sub-put-decimal
-sub-put-decimal c = search needs
-
 put-decimal-requires : tie.Need-put-decimal-requires
 put-decimal-requires c κs = omega (arith, negative-short (c .before .before .before .before .before .before .before .before .args .w) (sym (c .before .before .before .before .before .before .is-negative .ensures) ∙ c .before .before .before .before .before .if1 .taken))
-
-same-length : tie.Need-same-length
-same-length c = search needs
 
 returns : tie.Need-returns
 unfolding signed
@@ -29,9 +17,6 @@ returns c = (rw (sym (c .before .before .before .before .before .before .before 
 put-decimal-requires-2 : tie.Need-put-decimal-requires-2
 put-decimal-requires-2 c κs = omega (arith, word-short (c .before .before .before .before .args .w) (c .before .before .before .before .fits .w .fits))
 
-same-length-2 : tie.Need-same-length-2
-same-length-2 c = search needs
-
 returns-2 : tie.Need-returns-2
 unfolding signed
 returns-2 c = (rw (sym (c .before .before .before .before .before .is-negative .ensures) ∙ c .before .before .before .before .if1 .left) (c .before .before .put-decimal2 .ensures), omega (arith, word-short (c .before .before .before .before .before .before .before .args .w) (c .before .before .before .before .before .before .before .fits .w .fits)))
@@ -39,13 +24,5 @@ returns-2 c = (rw (sym (c .before .before .before .before .before .is-negative .
 pub put-signed-spec : {M : Type 1} → statement M
 put-signed-spec =
     tie.close
-    (tie.spec
-    is-negative-requires
-    put-requires
-    sub-put-decimal
-    put-decimal-requires
-    same-length
-    returns
-    put-decimal-requires-2
-    same-length-2
-    returns-2)
+    (tie.spec (search needs) (search needs) (search needs) put-decimal-requires (search needs)
+    returns put-decimal-requires-2 (search needs) returns-2)

@@ -5,14 +5,8 @@ use borrow.Author.Needs.{needs}
 use Rattle.commands.proofs.lines.position_line.Statement.{statement}
 use Rattle.commands.proofs.lines.position_line.Tie as tie
 
-has-room-requires : tie.Need-has-room-requires
-has-room-requires c κs = search needs
-
 put-position-requires : tie.Need-put-position-requires
 put-position-requires c κs = search (leb-true, tested)
-
-same-length : tie.Need-same-length
-same-length c = search needs
 
 returns : tie.Need-returns
 returns c = search (printed, tested)
@@ -22,4 +16,5 @@ returns-2 c = search (unprinted, tested)
 
 pub position-line-spec : {M : Type 1} → statement M
 position-line-spec =
-    tie.close (tie.spec has-room-requires put-position-requires same-length returns returns-2)
+    tie.close
+    (tie.spec (search needs) put-position-requires (search needs) returns returns-2)

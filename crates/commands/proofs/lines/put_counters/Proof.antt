@@ -5,33 +5,6 @@ use borrow.Author.Needs.{needs}
 use Rattle.commands.proofs.lines.put_counters.Statement.{statement}
 use Rattle.commands.proofs.lines.put_counters.Tie as tie
 
-put-three-requires : tie.Need-put-three-requires
-put-three-requires c κs = search needs
-
-put-count-requires : tie.Need-put-count-requires
-put-count-requires c κs = search needs
-
-shown-idx-requires : tie.Need-shown-idx-requires
-shown-idx-requires c κs = search needs
-
-put-count-requires-2 : tie.Need-put-count-requires-2
-put-count-requires-2 c κs = search needs
-
-put-count-requires-3 : tie.Need-put-count-requires-3
-put-count-requires-3 c κs = search needs
-
-put-signed-word-requires : tie.Need-put-signed-word-requires
-put-signed-word-requires c κs = search needs
-
-put-truth-requires : tie.Need-put-truth-requires
-put-truth-requires c κs = search needs
-
-put-requires : tie.Need-put-requires
-put-requires c κs = search needs
-
-same-length : tie.Need-same-length
-same-length c = search needs
-
 returns : tie.Need-returns
 unfolding endLineOf countersLine ending
 returns c =
@@ -48,14 +21,5 @@ returns c =
 pub put-counters-spec : {M : Type 1} → statement M
 put-counters-spec =
     tie.close
-    (tie.spec
-    put-three-requires
-    put-count-requires
-    shown-idx-requires
-    put-count-requires-2
-    put-count-requires-3
-    put-signed-word-requires
-    put-truth-requires
-    put-requires
-    same-length
-    returns)
+    (tie.spec (search needs) (search needs) (search needs) (search needs) (search needs)
+    (search needs) (search needs) (search needs) (search needs) returns)

@@ -5,30 +5,6 @@ use borrow.Author.Needs.{needs}
 use Rattle.commands.proofs.lines.put_position.Statement.{statement}
 use Rattle.commands.proofs.lines.put_position.Tie as tie
 
-put-requires : tie.Need-put-requires
-put-requires c κs = search needs
-
-put-signed-word-requires : tie.Need-put-signed-word-requires
-put-signed-word-requires c κs = search needs
-
-put-signed-word-requires-2 : tie.Need-put-signed-word-requires-2
-put-signed-word-requires-2 c κs = search needs
-
-put-signed-word-requires-3 : tie.Need-put-signed-word-requires-3
-put-signed-word-requires-3 c κs = search needs
-
-put-signed-word-requires-4 : tie.Need-put-signed-word-requires-4
-put-signed-word-requires-4 c κs = search needs
-
-put-word-requires : tie.Need-put-word-requires
-put-word-requires c κs = search needs
-
-put-requires-2 : tie.Need-put-requires-2
-put-requires-2 c κs = search needs
-
-same-length : tie.Need-same-length
-same-length c = search needs
-
 returns : tie.Need-returns
 unfolding positionLine ending
 returns c =
@@ -44,13 +20,5 @@ returns c =
 pub put-position-spec : {M : Type 1} → statement M
 put-position-spec =
     tie.close
-    (tie.spec
-    put-requires
-    put-signed-word-requires
-    put-signed-word-requires-2
-    put-signed-word-requires-3
-    put-signed-word-requires-4
-    put-word-requires
-    put-requires-2
-    same-length
-    returns)
+    (tie.spec (search needs) (search needs) (search needs) (search needs) (search needs)
+    (search needs) (search needs) (search needs) returns)

@@ -5,15 +5,6 @@ use borrow.Author.Needs.{needs}
 use Rattle.commands.proofs.reader.operand.Statement.{statement}
 use Rattle.commands.proofs.reader.operand.Tie as tie
 
-mul-word : tie.Need-mul-word
-mul-word c = search needs
-
-add-word : tie.Need-add-word
-add-word c = search needs
-
-word-requires : tie.Need-word-requires
-word-requires c κs = search needs
-
 returns : tie.Need-returns
 returns c = c .word .ensures ∙ sym (word-there _ _ _ _ (c .before .if1 .taken))
 
@@ -21,11 +12,4 @@ returns-2 : tie.Need-returns-2
 returns-2 c = sym (operand-none _ _ _ _ (c .if1 .left))
 
 pub operand-spec : {M : Type 1} → statement M
-operand-spec =
-    tie.close
-    (tie.spec
-    mul-word
-    add-word
-    word-requires
-    returns
-    returns-2)
+operand-spec = tie.close (tie.spec (search needs) (search needs) (search needs) returns returns-2)

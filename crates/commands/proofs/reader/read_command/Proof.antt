@@ -9,33 +9,12 @@ use Rattle.commands.proofs.reader.read_command.Tie as tie
 returns : tie.Need-returns
 returns c = reads-past (c .if1 .taken)
 
-shared-slice-read-byte : tie.Need-shared-slice-read-byte
-shared-slice-read-byte c = search needs
-
-operands-of-requires : tie.Need-operands-of-requires
-operands-of-requires c κs = search needs
-
-enum-known-operands : tie.Need-enum-known-operands
-enum-known-operands c = search needs
-
-add-read-words : tie.Need-add-read-words
-add-read-words c = search needs
-
 read-words-requires : tie.Need-read-words-requires
 unfolding count
 read-words-requires c κs = (omega arith, rw (c .before .operands .given .1) at (c .before .before .before .operands-of .ensures .1), sym (c .before .before .before .operands-of .ensures .0) ∙ c .before .operands .given .1)
 
-enum-told : tie.Need-enum-told
-enum-told c = search needs
-
-add-read-listed : tie.Need-add-read-listed
-add-read-listed c = search needs
-
 read-listed-requires : tie.Need-read-listed-requires
 read-listed-requires c κs = (omega arith, sym (c .before .before .operands-of .ensures .0) ∙ c .enum-told .given .1)
-
-enum-told-2 : tie.Need-enum-told-2
-enum-told-2 c = search needs
 
 returns-2 : tie.Need-returns-2
 returns-2 c = reads-inside (c .before .before .before .before .before .before .if1 .left) (c .read-words .ensures)
@@ -49,17 +28,6 @@ returns-4 c = reads-inside (c .before .before .before .before .if1 .left) (unkno
 pub read-command-spec : {M : Type 1} → statement M
 read-command-spec =
     tie.close
-    (tie.spec
-    returns
-    shared-slice-read-byte
-    operands-of-requires
-    enum-known-operands
-    add-read-words
-    read-words-requires
-    enum-told
-    add-read-listed
-    read-listed-requires
-    enum-told-2
-    returns-2
-    returns-3
-    returns-4)
+    (tie.spec returns (search needs) (search needs) (search needs) (search needs)
+    read-words-requires (search needs) (search needs) read-listed-requires (search needs) returns-2
+    returns-3 returns-4)

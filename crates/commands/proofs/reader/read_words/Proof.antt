@@ -4,17 +4,8 @@ use borrow.Author.Needs.{needs}
 use Rattle.commands.proofs.reader.read_words.Statement.{statement}
 use Rattle.commands.proofs.reader.read_words.Tie as tie
 
-sub-if1 : tie.Need-sub-if1
-sub-if1 c = search needs
-
-mul-if1 : tie.Need-mul-if1
-mul-if1 c = search needs
-
 returns : tie.Need-returns
 returns c = words-unreadable _ _ _ _ (c .before .before .pre .2) (c .before .before .pre .0) (c .if1 .taken)
-
-order-requires : tie.Need-order-requires
-order-requires c κs = search needs
 
 returns-2 : tie.Need-returns-2
 returns-2 c = rw (c .order .ensures) (words-ordered _ _ _ _ (c .before .before .before .pre .2) (c .before .before .before .pre .1) (omega arith))
@@ -22,9 +13,4 @@ returns-2 c = rw (c .order .ensures) (words-ordered _ _ _ _ (c .before .before .
 pub read-words-spec : {M : Type 1} → statement M
 read-words-spec =
     tie.close
-    (tie.spec
-    sub-if1
-    mul-if1
-    returns
-    order-requires
-    returns-2)
+    (tie.spec (search needs) (search needs) returns (search needs) returns-2)

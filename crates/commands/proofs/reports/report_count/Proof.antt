@@ -4,12 +4,6 @@ use borrow.Author.Needs.{needs}
 use Rattle.commands.proofs.reports.report_count.Statement.{statement}
 use Rattle.commands.proofs.reports.report_count.Tie as tie
 
-is-sound-requires : tie.Need-is-sound-requires
-is-sound-requires c κs = search needs
-
-item-count-requires : tie.Need-item-count-requires
-item-count-requires c κs = search needs
-
 add-result : tie.Need-add-result
 add-result c = record { fits = search (count-fits, tested, needs) }
 
@@ -20,5 +14,4 @@ returns-2 : tie.Need-returns-2
 returns-2 c = search (no-lines, tested)
 
 pub report-count-spec : {M : Type 1} → statement M
-report-count-spec =
-    tie.close (tie.spec is-sound-requires item-count-requires add-result returns returns-2)
+report-count-spec = tie.close (tie.spec (search needs) (search needs) add-result returns returns-2)

@@ -4,44 +4,14 @@ use borrow.Author.Needs.{needs}
 use Rattle.commands.proofs.reports.report_line.Statement.{statement}
 use Rattle.commands.proofs.reports.report_line.Tie as tie
 
-is-sound-requires : tie.Need-is-sound-requires
-is-sound-requires c κs = search needs
-
-end-line-requires : tie.Need-end-line-requires
-end-line-requires c κs = search needs
-
-same-length : tie.Need-same-length
-same-length c = search needs
-
 returns : tie.Need-returns
 returns c = search (prints-end, tested)
-
-sub-i : tie.Need-sub-i
-sub-i c = search needs
-
-item-count-requires : tie.Need-item-count-requires
-item-count-requires c κs = search needs
 
 totals-requires : tie.Need-totals-requires
 totals-requires c κs = search tested
 
-sum-line-requires : tie.Need-sum-line-requires
-sum-line-requires c κs = search needs
-
-same-length-2 : tie.Need-same-length-2
-same-length-2 c = search needs
-
 returns-2 : tie.Need-returns-2
 returns-2 c = search (prints-sum, tested)
-
-item-requires : tie.Need-item-requires
-item-requires c κs = search needs
-
-item-line-requires : tie.Need-item-line-requires
-item-line-requires c κs = search needs
-
-same-length-3 : tie.Need-same-length-3
-same-length-3 c = search needs
 
 returns-3 : tie.Need-returns-3
 returns-3 c = search (prints-item, tested)
@@ -52,19 +22,6 @@ returns-4 c = search (prints-none, tested)
 pub report-line-spec : {M : Type 1} → statement M
 report-line-spec =
     tie.close
-    (tie.spec
-    is-sound-requires
-    end-line-requires
-    same-length
-    returns
-    sub-i
-    item-count-requires
-    totals-requires
-    sum-line-requires
-    same-length-2
-    returns-2
-    item-requires
-    item-line-requires
-    same-length-3
-    returns-3
-    returns-4)
+    (tie.spec (search needs) (search needs) (search needs) returns (search needs) (search needs)
+    totals-requires (search needs) (search needs) returns-2 (search needs) (search needs)
+    (search needs) returns-3 returns-4)

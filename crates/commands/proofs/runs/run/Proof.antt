@@ -13,14 +13,8 @@ Inv-loop first₀ second₀ script last₀ commands₀ first second last command
 abbrev μ-loop : tie.MeasureT-loop
 μ-loop first₀ second₀ script last₀ commands₀ first second last commands = length script - last .next
 
-accepted-requires : tie.Need-accepted-requires Inv-loop μ-loop
-accepted-requires c κs = search needs
-
 loop-holds : tie.Need-loop-holds Inv-loop μ-loop
 loop-holds c = running-none (c .accepted .ensures)
-
-step-requires : tie.Need-step-requires Inv-loop μ-loop
-step-requires c κs = search needs
 
 add-commands : tie.Need-add-commands Inv-loop μ-loop
 add-commands c = omega (arith, c .before .before .before .before .before .before .before .before .before .loop .inv .few, c .before .before .before .before .before .before .before .if1 .taken, c .before .before .before .before .before .before .before .before .before .before .before .before .before .before .good .1 .1 .1 .0)
@@ -47,15 +41,5 @@ returns c = running-done (c .before .before .before .before .accepted .ensures) 
 pub run-spec : {M : Type 1} → statement M
 run-spec =
     tie.close
-    (tie.spec
-    Inv-loop
-    μ-loop
-    accepted-requires
-    loop-holds
-    step-requires
-    add-commands
-    loop-less
-    loop-again
-    same-length
-    same-length-2
-    returns)
+    (tie.spec Inv-loop μ-loop (search needs) loop-holds (search needs) add-commands loop-less
+    loop-again same-length same-length-2 returns)
