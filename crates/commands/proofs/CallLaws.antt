@@ -12,7 +12,10 @@ use Rattle.edits.specs.declared.DoneBound.{DoneBound, the-variants.Open as Done
 use Rattle.edits.specs.{Bounds.inputBound, Bounds.doneBound, Flags.plainForm, Flags.outbufferForm, Flags.wantsConcat, Flags.wantsTatweel, Writing.outputInfo}
 use Rattle.commands.specs.Bytes.{bound, input, done}
 use Rattle.commands.proofs.Readings.{NoneOf, past}
-use Rattle.commands.specs.Calls.{perform, c0C-output-info, c15-unsafe-to-break, c16-unsafe-to-concat, c17-safe-to-insert-tatweel, c18-unsafe-to-break-from-outbuffer, c19-unsafe-to-concat-from-outbuffer}
+use Rattle.records.specs.Bytes.{wordsAt}
+use Rattle.commands.specs.declared.Order.{Order}
+use Rattle.commands.specs.Reading.{ordered, wordedOf}
+use Rattle.commands.specs.Calls.{Worded, perform, c0C-output-info, c15-unsafe-to-break, c16-unsafe-to-concat, c17-safe-to-insert-tatweel, c18-unsafe-to-break-from-outbuffer, c19-unsafe-to-concat-from-outbuffer}
 
 -- ---- bounds: the highest word is an open one
 pub input-open : (n : ℕ) → n ≡ 4294967295 → inputBound InputOpen ≡ bound (λ k. input k) n
@@ -64,6 +67,17 @@ module _ {b : Buffer} {f s f′ s′ : List ℕ} {r : Reply} where
         → Meets (λ capacity a. perform 0 capacity (c19-unsafe-to-concat-from-outbuffer x y) [] a) b f s r f′ s′
     unfolding perform
     concat-out-call m = rw (← ex, ← ey) m
+
+-- ---- the call of an order whose byte is known
+unfoldable pub wordedAs : ℕ → List ℕ → Order → Worded ℕ
+wordedAs byte s o = ordered (record { byte = byte; a = o .a; b = o .b; c = o .c; d = o .d; e = o .e; numbers = o .numbers; next = o .next }) (wordsAt s (o .numbers) (o .b))
+
+pub arm-call : (n : ℕ) (script : List ℕ) (o : Order) {b : Buffer} {f s f′ s′ : List ℕ} {r : Reply}
+    → o .byte ≡ n
+    → Meets (λ capacity a. perform 0 capacity (wordedAs n script o .call) (wordedAs n script o .glyphs) a) b f s r f′ s′
+    → Meets (λ capacity a. perform 0 capacity (wordedOf script o .call) (wordedOf script o .glyphs) a) b f s r f′ s′
+unfolding wordedAs wordedOf ordered
+arm-call n script o e m = rw e m
 
 -- ---- the last arm: the byte is 26
 pub last-byte : (byte : ℕ) → NoneOf 38 byte → byte < 39 → byte ≡ 38

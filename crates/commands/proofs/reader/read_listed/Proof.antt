@@ -1,11 +1,12 @@
 use native.Mathlib.Omega.{arith}
 use Rattle.commands.proofs.Readings.{listed-unreadable, numbers-unreadable, listed-ordered}
 use borrow.Author.Needs.{needs}
+use Rattle.records.proofs.Tests.{tested}
 use Rattle.commands.proofs.reader.read_listed.Statement.{statement}
 use Rattle.commands.proofs.reader.read_listed.Tie as tie
 
 returns : tie.Need-returns
-returns c = listed-unreadable _ _ _ (c .before .before .pre .1) (c .before .before .pre .0) (c .if1 .taken)
+returns c = search (listed-unreadable, tested, needs)
 
 returns-2 : tie.Need-returns-2
 returns-2 c = numbers-unreadable _ _ _ (c .before .before .before .before .pre .1) (omega arith) (omega (arith, c .before .word .ensures, c .if2 .taken))

@@ -1,11 +1,12 @@
 use native.Mathlib.Omega.{arith}
 use Rattle.commands.proofs.Readings.{words-unreadable, words-ordered}
 use borrow.Author.Needs.{needs}
+use Rattle.records.proofs.Tests.{tested}
 use Rattle.commands.proofs.reader.read_words.Statement.{statement}
 use Rattle.commands.proofs.reader.read_words.Tie as tie
 
 returns : tie.Need-returns
-returns c = words-unreadable _ _ _ _ (c .before .before .pre .2) (c .before .before .pre .0) (c .if1 .taken)
+returns c = search (words-unreadable, tested, needs)
 
 returns-2 : tie.Need-returns-2
 returns-2 c = rw (c .order .ensures) (words-ordered _ _ _ _ (c .before .before .before .pre .2) (c .before .before .before .pre .1) (omega arith))

@@ -4,6 +4,7 @@ use native.Mathlib.Omega.{arith}
 use lib.ListN.{length}
 use Rattle.commands.proofs.RunLaws.{Running, running-none, running-more, running-done}
 use borrow.Author.Needs.{needs}
+use Rattle.records.proofs.Tests.{tested}
 use Rattle.commands.proofs.runs.run.Statement.{statement}
 use Rattle.commands.proofs.runs.run.Tie as tie
 
@@ -25,18 +26,16 @@ loop-less c =
     omega (arith, turn .step .ensures .onward (turn .before .before .before .if1 .taken), turn .before .before .before .if1 .taken)
 
 loop-again : tie.Need-loop-again Inv-loop μ-loop
-loop-again c =
-    let turn = c .before .before .before .before in
-    running-more (turn .before .before .before .before .before .loop .inv) (turn .before .before .before .if1 .taken) (turn .step .ensures) (turn .step .kept .1 .0) (turn .step .kept .1 .1 .0)
+loop-again c = search (running-more, tested, needs)
 
 same-length : tie.Need-same-length Inv-loop μ-loop
-same-length c = c .before .before .before .loop .inv .first-len
+same-length c = search (tested, needs)
 
 same-length-2 : tie.Need-same-length-2 Inv-loop μ-loop
-same-length-2 c = c .before .before .before .loop .inv .second-len
+same-length-2 c = search (tested, needs)
 
 returns : tie.Need-returns Inv-loop μ-loop
-returns c = running-done (c .before .before .before .before .accepted .ensures) (c .before .before .before .loop .inv) (c .before .if1 .left)
+returns c = search (running-done, tested, needs)
 
 pub run-spec : {M : Type 1} → statement M
 run-spec =
