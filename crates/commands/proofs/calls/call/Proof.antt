@@ -1,6 +1,6 @@
 use Rattle.commands.specs.Bytes.{forms, at, input, done}
 use Rattle.commands.specs.Calls.{perform}
-use Rattle.commands.specs.Reading.{operandsOf, count, made, ordered, wordedOf}
+use Rattle.commands.specs.Reading.{operandsOf, count, made, ordered}
 use Rattle.commands.proofs.CallLaws.{last-byte, arm-call, wordedAs}
 use borrow.Author.Needs.{needs}
 use Rattle.commands.proofs.calls.call.Statement.{statement}

@@ -4,7 +4,7 @@ use Rattle.commands.proofs.calls.replace_glyphs.Statement.{statement}
 use Rattle.commands.proofs.calls.replace_glyphs.Tie as tie
 
 returns : tie.Need-returns
-returns c = listed-call _ _ _ _ (c .before .before .before .before .before .before .before .before .before .before .before .before .before .pre) (c .before .before .before .before .replace-glyphs-from-bytes .ensures)
+returns c = listed-call _ _ _ _ (search) (search)
 
 pub replace-glyphs-spec : {M : Type 1} → statement M
 replace-glyphs-spec =

@@ -1,9 +1,6 @@
-use mathlib.Core.Path.{ap}
 use native.Mathlib.Omega.{arith}
-use lib.ListN.{length}
-use Rattle.commands.proofs.Writes.{and-then}
-use Rattle.commands.proofs.Decimals.{one-digit, more-digits, more-length}
 use borrow.Author.Needs.{needs}
+use Rattle.commands.proofs.Writes.{digit-room, digit-written, tenth-room, tenth-room-after, digits-written}
 use Prim.Native.Nat.{ℕ, _<_}
 use borrow.Fn.Kinds.{In}
 use borrow.Fn.PlainCycle.{Measures, is, falls, and}
@@ -44,7 +41,7 @@ put-decimal-put-requires : (t : ℕ) → put-decimal-lts.Need-put-requires (
   put-decimal-below t,
   put-decimal.Post,
 ) (put-decimal-at t) put-decimal.Post
-put-decimal-put-requires t c κs = omega (arith, ap length (one-digit _ (c .before .before .if1 .taken)), c .before .before .before .before .pre)
+put-decimal-put-requires t c κs = search (digit-room, needs)
 
 put-decimal-same-length : (t : ℕ) → put-decimal-lts.Need-same-length (
   digit-reads.Asked,
@@ -64,7 +61,7 @@ put-decimal-returns : (t : ℕ) → put-decimal-lts.Need-returns (
   put-decimal-below t,
   put-decimal.Post,
 ) (put-decimal-at t) put-decimal.Post
-put-decimal-returns t c = rw (one-digit _ (c .before .before .before .before .before .if1 .taken), ← c .before .before .before .digit .ensures) (c .before .before .put .ensures)
+put-decimal-returns t c = search digit-written
 
 put-decimal-put-decimal-requires : (t : ℕ) → put-decimal-lts.Need-put-decimal-requires (
   digit-reads.Asked,
@@ -74,7 +71,7 @@ put-decimal-put-decimal-requires : (t : ℕ) → put-decimal-lts.Need-put-decima
   put-decimal-below t,
   put-decimal.Post,
 ) (put-decimal-at t) put-decimal.Post
-put-decimal-put-decimal-requires t c κs = (omega arith, omega (arith, more-length _ (c .before .before .before .fits .n .fits) (c .before .if1 .left), c .before .before .before .pre))
+put-decimal-put-decimal-requires t c κs = (omega arith, search (tenth-room, needs))
 
 put-decimal-digit-requires-2 : (t : ℕ) → put-decimal-lts.Need-digit-requires-2 (
   digit-reads.Asked,
@@ -94,7 +91,7 @@ put-decimal-put-requires-2 : (t : ℕ) → put-decimal-lts.Need-put-requires-2 (
   put-decimal-below t,
   put-decimal.Post,
 ) (put-decimal-at t) put-decimal.Post
-put-decimal-put-requires-2 t c κs = omega (arith, more-length _ (c .before .before .before .before .before .before .before .before .fits .n .fits) (c .before .before .before .before .before .before .if1 .left), c .before .before .before .before .before .before .before .before .pre, c .before .before .before .before .put-decimal .ensures, c .before .before .before .before .put-decimal .kept .0)
+put-decimal-put-requires-2 t c κs = search (tenth-room-after, needs)
 
 put-decimal-same-length-2 : (t : ℕ) → put-decimal-lts.Need-same-length-2 (
   digit-reads.Asked,
@@ -114,7 +111,7 @@ put-decimal-returns-2 : (t : ℕ) → put-decimal-lts.Need-returns-2 (
   put-decimal-below t,
   put-decimal.Post,
 ) (put-decimal-at t) put-decimal.Post
-put-decimal-returns-2 t c = rw (more-digits _ (c .before .before .before .before .before .before .before .before .before .before .before .fits .n .fits) (c .before .before .before .before .before .before .before .before .before .if1 .left), ← c .before .before .before .digit2 .ensures) (and-then (c .before .before .before .before .before .before .before .put-decimal .ensures) (c .before .before .put2 .ensures))
+put-decimal-returns-2 t c = search digits-written
 
 pub +put-decimal-spec : {M : Type 1} → statement M
 +put-decimal-spec = close μ-put-decimal λ t. put-decimal-lts.spec (

@@ -9,7 +9,7 @@ returns : tie.Need-returns
 returns c = search (listed-unreadable, tested, needs)
 
 returns-2 : tie.Need-returns-2
-returns-2 c = numbers-unreadable _ _ _ (c .before .before .before .before .pre .1) (omega arith) (omega (arith, c .before .word .ensures, c .if2 .taken))
+returns-2 c = numbers-unreadable _ _ _ (search (tested, needs)) (omega arith) (search (tested, needs))
 
 returns-3 : tie.Need-returns-3
 returns-3 c = rw (c .order .ensures, c .before .before .word .ensures) (listed-ordered _ _ _ (c .before .before .before .before .before .pre .1) (omega (arith, c .before .before .word .ensures, c .before .if2 .left)))
