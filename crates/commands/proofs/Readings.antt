@@ -198,3 +198,9 @@ pub read-up-to : (n : ℕ) (s : List ℕ) (at : ℕ) (r : Reading) → at < leng
     → readUpTo (suc n) (drop at s) ≡ continued n (readingOf s r)
 unfolding readUpTo continued
 read-up-to n s at r h w = ap (readUpTo (suc n)) (next s at (at + 1) h (omega arith)) ∙ ap (continued n) (w .inside h .same)
+
+-- an order of five operands that were read one by one
+pub order-made : (s : List ℕ) (byte from n m : ℕ) {a b c d e : ℕ} → a ≡ operandAt s from n 0 → b ≡ operandAt s from n 1 → c ≡ operandAt s from n 2 → d ≡ operandAt s from n 3 → e ≡ operandAt s from n 4
+    → record { byte = byte; a = a; b = b; c = c; d = d; e = e; numbers = from + 4 * n; next = from + 4 * n + 4 * m } ≡ orderAt s byte from n m
+unfolding orderAt
+order-made s byte from n m p q u v w = rw (p, q, u, v, w)

@@ -1,6 +1,6 @@
 -- Laws of the run: what is left of a string, command by command.
 use mathlib.Core.{Path._≡_, Path.refl, Path.sym, Path.ap, Path._∙_, Bool.Bool, Bool.true, Bool.false, Bool.cond, Bool.and-eq-true-iff, Option.Option, Option.none, Option.some, List.List, List.[], List._∷_}
-use Prim.Native.Nat.{ℕ, zero, suc, _+_, _-_, _<_, _≤_}
+use Prim.Native.Nat.{ℕ, zero, suc, _+_, _-_, _<_, _≤_, _^_}
 use native.Mathlib.Nat.{add-zero}
 use native.Mathlib.Omega.{arith}
 use lib.{Dec.leb, ListN.length, ListN.drop, ListN.drop-of-length-le}
@@ -111,6 +111,12 @@ pub record Running (t : List ℕ) (b₀ : Buffer) (f₀ s₀ f s : List ℕ) (x 
   pub all : length (outcomes t b₀ f₀ s₀) ≡ length ahead + k
   pub stays : allNo (outcomes t b₀ f₀ s₀) ≡ true → (allNo ahead ≡ true) × (x .reply .buffer ≡ b₀) × (f ≡ f₀) × (s ≡ s₀)
   pub beyond : (m : ℕ) → largest (outcomes t b₀ f₀ s₀) ≤ m → (largest ahead ≤ m) × (wordsFrom m f ≡ wordsFrom m f₀) × (wordsFrom m s ≡ wordsFrom m s₀)
+
+pub running-fits : {t : List ℕ} {b₀ : Buffer} {f₀ s₀ f s : List ℕ} {x : Step} {k : ℕ} → Running t b₀ f₀ s₀ f s x k → x .next < length t → length t < 2 ^ 64 → k + 1 < 2 ^ 64
+running-fits v h fits = omega (arith, v .few)
+
+pub running-less : {t : List ℕ} {b : Buffer} {f s f′ s′ : List ℕ} {at : ℕ} {r : Step} → Steps t at b f s r f′ s′ → at < length t → length t - r .next < length t - at
+running-less w h = omega (arith, w .onward h)
 
 module _ {t : List ℕ} {b₀ : Buffer} {f₀ s₀ : List ℕ} where
   pub running-none : {r : Reply} → r ≡ reply b₀ Done → Running t (r .buffer) f₀ s₀ f₀ s₀ (record { reply = r; next = 0 }) 0

@@ -65,4 +65,5 @@ call-spec =
     (λ c. search needs) (λ c. search needs) (λ c. arm-call 35 _ _ (search) (search))
     (λ c. search needs) (λ c. search needs) (λ c. arm-call 36 _ _ (search) (search))
     (λ c. search needs) (λ c. search needs) (λ c. arm-call 37 _ _ (search) (search))
-    (λ c. search needs) (λ c. search needs) (λ c. arm-call 38 _ _ (last-byte _ (search) (search)) (search)))
+    (λ c. search needs) (λ c. search needs)
+    (λ c. arm-call 38 _ _ (last-byte _ (search) (search)) (search)))

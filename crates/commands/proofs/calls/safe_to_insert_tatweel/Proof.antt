@@ -4,7 +4,7 @@ use Rattle.commands.proofs.calls.safe_to_insert_tatweel.Statement.{stat
 use Rattle.commands.proofs.calls.safe_to_insert_tatweel.Tie as tie
 
 returns : tie.Need-returns
-returns c = tatweel-call _ _ (c .before .before .before .before .before .before .before .before .input-bound .ensures) (c .before .before .before .before .before .before .before .input-bound2 .ensures) (c .before .before .before .before .safe-to-insert-tatweel .ensures)
+returns c = tatweel-call _ _ (search) (search) (c .before .before .before .before .safe-to-insert-tatweel .ensures)
 
 pub safe-to-insert-tatweel-spec : {M : Type 1} → statement M
 safe-to-insert-tatweel-spec =

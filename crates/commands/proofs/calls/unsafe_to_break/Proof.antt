@@ -4,7 +4,7 @@ use Rattle.commands.proofs.calls.unsafe_to_break.Statement.{statement}
 use Rattle.commands.proofs.calls.unsafe_to_break.Tie as tie
 
 returns : tie.Need-returns
-returns c = break-call _ _ (c .before .before .before .before .before .before .before .before .input-bound .ensures) (c .before .before .before .before .before .before .before .input-bound2 .ensures) (c .before .before .before .before .unsafe-to-break .ensures)
+returns c = break-call _ _ (search) (search) (c .before .before .before .before .unsafe-to-break .ensures)
 
 pub unsafe-to-break-spec : {M : Type 1} → statement M
 unsafe-to-break-spec =

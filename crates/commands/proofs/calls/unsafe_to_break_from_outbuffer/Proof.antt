@@ -4,7 +4,7 @@ use Rattle.commands.proofs.calls.unsafe_to_break_from_outbuffer.Stateme
 use Rattle.commands.proofs.calls.unsafe_to_break_from_outbuffer.Tie as tie
 
 returns : tie.Need-returns
-returns c = break-out-call _ _ (c .before .before .before .before .before .before .before .before .done-bound .ensures) (c .before .before .before .before .before .before .before .input-bound .ensures) (c .before .before .before .before .unsafe-to-break-from-outbuffer .ensures)
+returns c = break-out-call _ _ (search) (search) (c .before .before .before .before .unsafe-to-break-from-outbuffer .ensures)
 
 pub unsafe-to-break-from-outbuffer-spec : {M : Type 1} → statement M
 unsafe-to-break-from-outbuffer-spec =

@@ -4,7 +4,7 @@ use Rattle.commands.proofs.calls.unsafe_to_concat.Statement.{statement}
 use Rattle.commands.proofs.calls.unsafe_to_concat.Tie as tie
 
 returns : tie.Need-returns
-returns c = concat-call _ _ (c .before .before .before .before .before .before .before .before .input-bound .ensures) (c .before .before .before .before .before .before .before .input-bound2 .ensures) (c .before .before .before .before .unsafe-to-concat .ensures)
+returns c = concat-call _ _ (search) (search) (c .before .before .before .before .unsafe-to-concat .ensures)
 
 pub unsafe-to-concat-spec : {M : Type 1} → statement M
 unsafe-to-concat-spec =

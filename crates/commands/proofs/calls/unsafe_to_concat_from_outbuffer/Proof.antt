@@ -4,7 +4,7 @@ use Rattle.commands.proofs.calls.unsafe_to_concat_from_outbuffer.Statem
 use Rattle.commands.proofs.calls.unsafe_to_concat_from_outbuffer.Tie as tie
 
 returns : tie.Need-returns
-returns c = concat-out-call _ _ (c .before .before .before .before .before .before .before .before .done-bound .ensures) (c .before .before .before .before .before .before .before .input-bound .ensures) (c .before .before .before .before .unsafe-to-concat-from-outbuffer .ensures)
+returns c = concat-out-call _ _ (search) (search) (c .before .before .before .before .unsafe-to-concat-from-outbuffer .ensures)
 
 pub unsafe-to-concat-from-outbuffer-spec : {M : Type 1} → statement M
 unsafe-to-concat-from-outbuffer-spec =

@@ -12,7 +12,9 @@ returns-2 : tie.Need-returns-2
 returns-2 c = numbers-unreadable _ _ _ (search (tested, needs)) (omega arith) (search (tested, needs))
 
 returns-3 : tie.Need-returns-3
-returns-3 c = rw (c .order .ensures, c .before .before .word .ensures) (listed-ordered _ _ _ (c .before .before .before .before .before .pre .1) (omega (arith, c .before .before .word .ensures, c .before .if2 .left)))
+returns-3 c =
+    let sized = c .before .before in
+    rw (c .order .ensures, sized .word .ensures) (listed-ordered _ _ _ (search needs) (omega (arith, sized .word .ensures, c .before .if2 .left)))
 
 pub read-listed-spec : {M : Type 1} → statement M
 read-listed-spec =

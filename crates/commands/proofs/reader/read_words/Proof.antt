@@ -9,7 +9,7 @@ returns : tie.Need-returns
 returns c = search (words-unreadable, tested, needs)
 
 returns-2 : tie.Need-returns-2
-returns-2 c = rw (c .order .ensures) (words-ordered _ _ _ _ (c .before .before .before .pre .2) (c .before .before .before .pre .1) (omega arith))
+returns-2 c = rw (c .order .ensures) (words-ordered _ _ _ _ (search needs) (search needs) (omega arith))
 
 pub read-words-spec : {M : Type 1} → statement M
 read-words-spec =

@@ -2,7 +2,7 @@
 use Prim.Native.Nat.{_-_}
 use native.Mathlib.Omega.{arith}
 use lib.ListN.{length}
-use Rattle.commands.proofs.RunLaws.{Running, running-none, running-more, running-done}
+use Rattle.commands.proofs.RunLaws.{Running, running-none, running-fits, running-less, running-more, running-done}
 use borrow.Author.Needs.{needs}
 use Rattle.records.proofs.Tests.{tested}
 use Rattle.commands.proofs.runs.run.Statement.{statement}
@@ -15,15 +15,16 @@ abbrev μ-loop : tie.MeasureT-loop
 μ-loop first₀ second₀ script last₀ commands₀ first second last commands = length script - last .next
 
 loop-holds : tie.Need-loop-holds Inv-loop μ-loop
-loop-holds c = running-none (c .accepted .ensures)
+loop-holds c = search running-none
 
 add-commands : tie.Need-add-commands Inv-loop μ-loop
-add-commands c = omega (arith, c .before .before .before .before .before .before .before .before .before .loop .inv .few, c .before .before .before .before .before .before .before .if1 .taken, c .before .before .before .before .before .before .before .before .before .before .before .before .before .before .good .1 .1 .1 .0)
+add-commands c =
+    let turn = c .before .before .before .before .before .before .before in
+    let entry = turn .before .before .before .before .before .before .before in
+    record { fits = running-fits (turn .before .before .loop .inv) (search) (omega (arith, entry .good .1 .1 .1 .0)) }
 
 loop-less : tie.Need-loop-less Inv-loop μ-loop
-loop-less c =
-    let turn = c .before .before .before .before in
-    omega (arith, turn .step .ensures .onward (turn .before .before .before .if1 .taken), turn .before .before .before .if1 .taken)
+loop-less c = search running-less
 
 loop-again : tie.Need-loop-again Inv-loop μ-loop
 loop-again c = search (running-more, tested, needs)
