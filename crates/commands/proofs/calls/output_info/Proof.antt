@@ -7,4 +7,6 @@ returns : tie.Need-returns
 returns c = info-call _ (search)
 
 pub output-info-spec : {M : Type 1} → statement M
-output-info-spec = tie.close (tie.spec (search needs) (search needs) (search needs) returns)
+output-info-spec =
+    tie.close
+    (tie.spec (λ c κs. search needs) (λ c. search needs) (λ c. search needs) returns)

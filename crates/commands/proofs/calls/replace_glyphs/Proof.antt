@@ -9,5 +9,6 @@ returns c = listed-call _ _ _ _ (search) (search)
 pub replace-glyphs-spec : {M : Type 1} → statement M
 replace-glyphs-spec =
     tie.close
-    (tie.spec (search needs) (search needs) (search needs) (search needs) (search needs)
-    (search needs) (search needs) (search needs) (search needs) (search needs) returns)
+    (tie.spec (λ c. search needs) (λ c. search needs) (λ c. search needs) (λ c. search needs)
+    (λ c. search needs) (λ c. search needs) (λ c. search needs) (λ c κs. search needs)
+    (λ c. search needs) (λ c. search needs) returns)

@@ -9,4 +9,5 @@ returns c = tatweel-call _ _ (search) (search) (c .before .before .before .befor
 pub safe-to-insert-tatweel-spec : {M : Type 1} → statement M
 safe-to-insert-tatweel-spec =
     tie.close
-    (tie.spec (search needs) (search needs) (search needs) (search needs) (search needs) returns)
+    (tie.spec (λ c κs. search needs) (λ c κs. search needs) (λ c κs. search needs)
+    (λ c. search needs) (λ c. search needs) returns)

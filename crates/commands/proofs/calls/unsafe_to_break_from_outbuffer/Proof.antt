@@ -9,4 +9,5 @@ returns c = break-out-call _ _ (search) (search) (c .before .before .before .bef
 pub unsafe-to-break-from-outbuffer-spec : {M : Type 1} → statement M
 unsafe-to-break-from-outbuffer-spec =
     tie.close
-    (tie.spec (search needs) (search needs) (search needs) (search needs) (search needs) returns)
+    (tie.spec (λ c κs. search needs) (λ c κs. search needs) (λ c κs. search needs)
+    (λ c. search needs) (λ c. search needs) returns)

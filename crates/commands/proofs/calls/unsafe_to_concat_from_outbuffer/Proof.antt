@@ -9,4 +9,5 @@ returns c = concat-out-call _ _ (search) (search) (c .before .before .before .be
 pub unsafe-to-concat-from-outbuffer-spec : {M : Type 1} → statement M
 unsafe-to-concat-from-outbuffer-spec =
     tie.close
-    (tie.spec (search needs) (search needs) (search needs) (search needs) (search needs) returns)
+    (tie.spec (λ c κs. search needs) (λ c κs. search needs) (λ c κs. search needs)
+    (λ c. search needs) (λ c. search needs) returns)

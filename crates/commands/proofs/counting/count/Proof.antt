@@ -15,4 +15,5 @@ returns-2 c = search count-one
 pub count-spec : {M : Type 1} → statement M
 count-spec =
     tie.close
-    (tie.spec returns (search needs) (search needs) (search needs) add-t9 (search needs) returns-2)
+    (tie.spec returns (λ c. search needs) (λ c. search needs) (λ c κs. search needs) add-t9
+    (λ c. search needs) returns-2)

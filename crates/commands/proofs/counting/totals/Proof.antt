@@ -27,5 +27,6 @@ returns c = search counting-all
 pub totals-spec : {M : Type 1} → statement M
 totals-spec =
     tie.close
-    (tie.spec Inv-loop μ-loop (search needs) (search needs) loop-holds (search needs) (search needs)
-    count-requires (search needs) (omega arith) loop-again returns)
+    (tie.spec Inv-loop μ-loop (λ c κs. search needs) (λ c κs. search needs) loop-holds
+    (λ c κs. search needs) (λ c κs. search needs) count-requires (λ c. search needs) (omega arith)
+    loop-again returns)

@@ -13,4 +13,4 @@ unfolding hexDigit
 returns-2 c = simp (le-ltb _ _ (c .if1 .left))
 
 pub hex-digit-spec : {M : Type 1} → statement M
-hex-digit-spec = tie.close (tie.spec (search needs) (search needs) returns returns-2)
+hex-digit-spec = tie.close (tie.spec (λ c. search needs) (λ c. search needs) returns returns-2)

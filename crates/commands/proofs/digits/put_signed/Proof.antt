@@ -19,5 +19,5 @@ returns-2 c = (search (natural-written, tested), search (word-end, needs))
 pub put-signed-spec : {M : Type 1} → statement M
 put-signed-spec =
     tie.close
-    (tie.spec (search needs) (search needs) (search needs) put-decimal-requires (search needs)
-    returns put-decimal-requires-2 (search needs) returns-2)
+    (tie.spec (λ c κs. search needs) (λ c κs. search needs) (λ c. search needs) put-decimal-requires
+    (λ c. search needs) returns put-decimal-requires-2 (λ c. search needs) returns-2)

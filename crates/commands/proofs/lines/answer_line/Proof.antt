@@ -17,4 +17,4 @@ returns-2 c = search (unprinted, tested)
 pub answer-line-spec : {M : Type 1} → statement M
 answer-line-spec =
     tie.close
-    (tie.spec (search needs) put-answer-requires (search needs) returns returns-2)
+    (tie.spec (λ c κs. search needs) put-answer-requires (λ c. search needs) returns returns-2)

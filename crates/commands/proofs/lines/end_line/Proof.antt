@@ -17,4 +17,4 @@ returns-2 c = search (unprinted, tested)
 pub end-line-spec : {M : Type 1} → statement M
 end-line-spec =
     tie.close
-    (tie.spec (search needs) put-counters-requires (search needs) returns returns-2)
+    (tie.spec (λ c κs. search needs) put-counters-requires (λ c. search needs) returns returns-2)

@@ -17,4 +17,4 @@ returns-2 c = search (unprinted, tested)
 pub glyph-line-spec : {M : Type 1} → statement M
 glyph-line-spec =
     tie.close
-    (tie.spec (search needs) put-glyph-requires (search needs) returns returns-2)
+    (tie.spec (λ c κs. search needs) put-glyph-requires (λ c. search needs) returns returns-2)

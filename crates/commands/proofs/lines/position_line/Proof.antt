@@ -17,4 +17,4 @@ returns-2 c = search (unprinted, tested)
 pub position-line-spec : {M : Type 1} → statement M
 position-line-spec =
     tie.close
-    (tie.spec (search needs) put-position-requires (search needs) returns returns-2)
+    (tie.spec (λ c κs. search needs) put-position-requires (λ c. search needs) returns returns-2)

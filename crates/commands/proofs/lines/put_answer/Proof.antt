@@ -20,7 +20,8 @@ returns-3 c = (search (refusal-written, writing) depth 7, omega arith)
 pub put-answer-spec : {M : Type 1} → statement M
 put-answer-spec =
     tie.close
-    (tie.spec (search needs) (search needs) (search needs) (search needs) (search needs)
-    (search needs) (search needs) (search needs) (search needs) (search needs) (search needs)
-    (search needs) (search needs) (search needs) returns (search needs) returns-2 (search needs)
-    returns-3)
+    (tie.spec (λ c κs. search needs) (λ c. search needs) (λ c κs. search needs)
+    (λ c κs. search needs) (λ c. search needs) (λ c κs. search needs) (λ c κs. search needs)
+    (λ c κs. search needs) (λ c. search needs) (λ c κs. search needs) (λ c κs. search needs)
+    (λ c κs. search needs) (λ c κs. search needs) (λ c. search needs) returns (λ c. search needs)
+    returns-2 (λ c. search needs) returns-3)

@@ -12,5 +12,6 @@ returns c = (search (glyph-written, writing) depth 9, omega arith)
 pub put-glyph-spec : {M : Type 1} → statement M
 put-glyph-spec =
     tie.close
-    (tie.spec (search needs) (search needs) (search needs) (search needs) (search needs)
-    (search needs) (search needs) (search needs) returns)
+    (tie.spec (λ c κs. search needs) (λ c κs. search needs) (λ c κs. search needs)
+    (λ c κs. search needs) (λ c κs. search needs) (λ c κs. search needs) (λ c κs. search needs)
+    (λ c. search needs) returns)

@@ -10,5 +10,5 @@ returns c = (search sum-written, omega arith)
 pub put-totals-spec : {M : Type 1} → statement M
 put-totals-spec =
     tie.close
-    (tie.spec (search needs) (search needs) (search needs) (search needs) (search needs)
-    (search needs) returns)
+    (tie.spec (λ c κs. search needs) (λ c κs. search needs) (λ c κs. search needs)
+    (λ c κs. search needs) (λ c κs. search needs) (λ c. search needs) returns)

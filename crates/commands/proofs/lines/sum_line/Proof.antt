@@ -17,4 +17,4 @@ returns-2 c = search (unprinted, tested)
 pub sum-line-spec : {M : Type 1} → statement M
 sum-line-spec =
     tie.close
-    (tie.spec (search needs) put-totals-requires (search needs) returns returns-2)
+    (tie.spec (λ c κs. search needs) put-totals-requires (λ c. search needs) returns returns-2)

@@ -13,4 +13,6 @@ returns-2 : tie.Need-returns-2
 returns-2 c = sym (operand-none _ _ _ _ (c .if1 .left))
 
 pub operand-spec : {M : Type 1} → statement M
-operand-spec = tie.close (tie.spec (search needs) (search needs) (search needs) returns returns-2)
+operand-spec =
+    tie.close
+    (tie.spec (λ c. search needs) (λ c. search needs) (λ c κs. search needs) returns returns-2)

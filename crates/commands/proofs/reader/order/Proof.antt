@@ -9,5 +9,6 @@ returns c = order-made _ _ _ _ _ (search) (search) (search) (search) (search)
 pub order-spec : {M : Type 1} → statement M
 order-spec =
     tie.close
-    (tie.spec (search needs) (search needs) (search needs) (search needs) (search needs)
-    (search needs) (search needs) (search needs) (search needs) returns)
+    (tie.spec (λ c κs. search needs) (λ c κs. search needs) (λ c κs. search needs)
+    (λ c κs. search needs) (λ c κs. search needs) (λ c. search needs) (λ c. search needs)
+    (λ c. search needs) (λ c. search needs) returns)

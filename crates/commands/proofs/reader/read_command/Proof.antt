@@ -29,6 +29,6 @@ returns-4 c = search (reads-inside, unknown-unreadable, tested, needs)
 pub read-command-spec : {M : Type 1} → statement M
 read-command-spec =
     tie.close
-    (tie.spec returns (search needs) (search needs) (search needs) (search needs)
-    read-words-requires (search needs) (search needs) read-listed-requires (search needs) returns-2
-    returns-3 returns-4)
+    (tie.spec returns (λ c. search needs) (λ c κs. search needs) (λ c. search needs)
+    (λ c. search needs) read-words-requires (λ c. search needs) (λ c. search needs)
+    read-listed-requires (λ c. search needs) returns-2 returns-3 returns-4)

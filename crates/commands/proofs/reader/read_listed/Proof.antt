@@ -19,5 +19,5 @@ returns-3 c =
 pub read-listed-spec : {M : Type 1} → statement M
 read-listed-spec =
     tie.close
-    (tie.spec (search needs) returns (search needs) (search needs) (search needs) (search needs)
-    returns-2 (search needs) returns-3)
+    (tie.spec (λ c. search needs) returns (λ c. search needs) (λ c κs. search needs)
+    (λ c. search needs) (λ c. search needs) returns-2 (λ c κs. search needs) returns-3)

@@ -14,4 +14,4 @@ returns-2 c = rw (c .order .ensures) (words-ordered _ _ _ _ (search needs) (sear
 pub read-words-spec : {M : Type 1} → statement M
 read-words-spec =
     tie.close
-    (tie.spec (search needs) (search needs) returns (search needs) returns-2)
+    (tie.spec (λ c. search needs) (λ c. search needs) returns (λ c κs. search needs) returns-2)

@@ -14,4 +14,6 @@ returns-2 : tie.Need-returns-2
 returns-2 c = search (no-lines, tested)
 
 pub report-count-spec : {M : Type 1} → statement M
-report-count-spec = tie.close (tie.spec (search needs) (search needs) add-result returns returns-2)
+report-count-spec =
+    tie.close
+    (tie.spec (λ c κs. search needs) (λ c κs. search needs) add-result returns returns-2)

@@ -22,6 +22,7 @@ returns-4 c = search (prints-none, tested)
 pub report-line-spec : {M : Type 1} → statement M
 report-line-spec =
     tie.close
-    (tie.spec (search needs) (search needs) (search needs) returns (search needs) (search needs)
-    totals-requires (search needs) (search needs) returns-2 (search needs) (search needs)
-    (search needs) returns-3 returns-4)
+    (tie.spec (λ c κs. search needs) (λ c κs. search needs) (λ c. search needs) returns
+    (λ c. search needs) (λ c κs. search needs) totals-requires (λ c κs. search needs)
+    (λ c. search needs) returns-2 (λ c κs. search needs) (λ c κs. search needs) (λ c. search needs)
+    returns-3 returns-4)

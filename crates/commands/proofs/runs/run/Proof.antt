@@ -41,5 +41,5 @@ returns c = search (running-done, tested, needs)
 pub run-spec : {M : Type 1} → statement M
 run-spec =
     tie.close
-    (tie.spec Inv-loop μ-loop (search needs) loop-holds (search needs) add-commands loop-less
-    loop-again same-length same-length-2 returns)
+    (tie.spec Inv-loop μ-loop (λ c κs. search needs) loop-holds (λ c κs. search needs) add-commands
+    loop-less loop-again same-length same-length-2 returns)

@@ -13,4 +13,6 @@ unfolding placeAfter
 returns-2 c = record { reads = c .before .before .read-command .ensures; next-is = rw (c .enum-told .given .1) }
 
 pub take-at-spec : {M : Type 1} → statement M
-take-at-spec = tie.close (tie.spec (search needs) (search needs) (search needs) returns returns-2)
+take-at-spec =
+    tie.close
+    (tie.spec (λ c κs. search needs) (λ c. search needs) (λ c. search needs) returns returns-2)

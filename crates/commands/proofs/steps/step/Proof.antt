@@ -15,5 +15,5 @@ returns-2 c = search (step-unread)
 pub step-spec : {M : Type 1} → statement M
 step-spec =
     tie.close
-    (tie.spec (search needs) (search needs) call-requires (search needs) (search needs)
-    (search needs) (search needs) returns returns-2)
+    (tie.spec (λ c κs. search needs) (λ c. search needs) call-requires (λ c. search needs)
+    (λ c κs. search needs) (λ c. search needs) (λ c. search needs) returns returns-2)

@@ -10,4 +10,6 @@ returns : tie.Need-returns
 returns c = (search writing, search (count-end-after, needs))
 
 pub put-count-spec : {M : Type 1} → statement M
-put-count-spec = tie.close (tie.spec (search needs) put-decimal-requires (search needs) returns)
+put-count-spec =
+    tie.close
+    (tie.spec (λ c κs. search needs) put-decimal-requires (λ c. search needs) returns)

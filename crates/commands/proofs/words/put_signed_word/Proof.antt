@@ -7,4 +7,6 @@ returns : tie.Need-returns
 returns c = search (writing, needs)
 
 pub put-signed-word-spec : {M : Type 1} → statement M
-put-signed-word-spec = tie.close (tie.spec (search needs) (search needs) (search needs) returns)
+put-signed-word-spec =
+    tie.close
+    (tie.spec (λ c κs. search needs) (λ c κs. search needs) (λ c. search needs) returns)

@@ -13,5 +13,5 @@ returns-2 c = (search false-written, omega arith)
 pub put-truth-spec : {M : Type 1} → statement M
 put-truth-spec =
     tie.close
-    (tie.spec (search needs) (search needs) (search needs) returns (search needs) (search needs)
-    returns-2)
+    (tie.spec (λ c κs. search needs) (λ c κs. search needs) (λ c. search needs) returns
+    (λ c κs. search needs) (λ c. search needs) returns-2)

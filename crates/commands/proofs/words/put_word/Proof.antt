@@ -10,4 +10,6 @@ returns : tie.Need-returns
 returns c = (search writing, search (word-end-after, needs))
 
 pub put-word-spec : {M : Type 1} → statement M
-put-word-spec = tie.close (tie.spec (search needs) put-decimal-requires (search needs) returns)
+put-word-spec =
+    tie.close
+    (tie.spec (λ c κs. search needs) put-decimal-requires (λ c. search needs) returns)
