@@ -13,25 +13,13 @@ Inv-loop first₀ second₀ script last₀ commands₀ first second last command
 abbrev μ-loop : tie.MeasureT-loop
 μ-loop first₀ second₀ script last₀ commands₀ first second last commands = length script - last .next
 
-accepted-requires : tie.Need-accepted-requires Inv-loop μ-loop
-accepted-requires c κs = search needs
-
 loop-holds : tie.Need-loop-holds Inv-loop μ-loop
 loop-holds c = running-none (c .accepted .ensures)
-
-step-requires : tie.Need-step-requires Inv-loop μ-loop
-step-requires c κs = search needs
 
 add-commands : tie.Need-add-commands Inv-loop μ-loop
 add-commands c =
     let turn = c .before .before .before .before in
     omega (arith, turn .before .before .before .before .before .loop .inv .few, turn .before .before .before .if1 .taken, turn .before .before .before .before .before .before .before .before .before .before .good .1 .1 .1 .0)
-
-shared-slice-read-answer : tie.Need-shared-slice-read-answer Inv-loop μ-loop
-shared-slice-read-answer c = search needs
-
-answer-requires : tie.Need-answer-requires Inv-loop μ-loop
-answer-requires c κs = search needs
 
 loop-less : tie.Need-loop-less Inv-loop μ-loop
 loop-less c =
@@ -55,17 +43,6 @@ returns c = running-done (c .before .before .before .before .accepted .ensures) 
 pub play-spec : {M : Type 1} → statement M
 play-spec =
     tie.close
-    (tie.spec
-    Inv-loop
-    μ-loop
-    accepted-requires
-    loop-holds
-    step-requires
-    add-commands
-    shared-slice-read-answer
-    answer-requires
-    loop-less
-    loop-again
-    same-length
-    same-length-2
+    (tie.spec Inv-loop μ-loop (λ c κs. search needs) loop-holds (λ c κs. search needs) add-commands
+    (λ c. search needs) (λ c κs. search needs) loop-less loop-again same-length same-length-2
     returns)

@@ -28,145 +28,39 @@ over : (c : tie.After-output-glyph) → At 3 a₅ (c .output-glyph .result .buff
 unfolding a₅
 over c = leaves (c .output-glyph .ensures) (full (c .before .before .before .before .before .before .before)) (c .output-glyph .kept .1 .0)
 
-start-requires : tie.Need-start-requires
-start-requires c κs = search needs
-
-slice-aggregate-clear-output : tie.Need-slice-aggregate-clear-output
-slice-aggregate-clear-output c = search needs
-
-slice-aggregate-clear-output-2 : tie.Need-slice-aggregate-clear-output-2
-slice-aggregate-clear-output-2 c = search needs
-
-clear-output-requires : tie.Need-clear-output-requires
-clear-output-requires c κs = search needs
-
-slice-aggregate-replace-glyphs : tie.Need-slice-aggregate-replace-glyphs
-slice-aggregate-replace-glyphs c = search needs
-
-slice-aggregate-replace-glyphs-2 : tie.Need-slice-aggregate-replace-glyphs-2
-slice-aggregate-replace-glyphs-2 c = search needs
-
-slice-aggregate-replace-glyphs-3 : tie.Need-slice-aggregate-replace-glyphs-3
-slice-aggregate-replace-glyphs-3 c = search needs
-
-replace-glyphs-requires : tie.Need-replace-glyphs-requires
-replace-glyphs-requires c κs = search needs
-
-code-requires : tie.Need-code-requires
-code-requires c κs = search needs
-
 expect-requires : tie.Need-expect-requires
 expect-requires c κs =
     let at-call = c .before .before .before in
     eq-eqb (c .code .result) 6 (c .code .ensures ∙ ap codeOf (answers (at-call .replace-glyphs .ensures) (opened (at-call .before .before .before .before))) ∙ few-code)
-
-slice-aggregate-merge-clusters : tie.Need-slice-aggregate-merge-clusters
-slice-aggregate-merge-clusters c = search needs
-
-slice-aggregate-merge-clusters-2 : tie.Need-slice-aggregate-merge-clusters-2
-slice-aggregate-merge-clusters-2 c = search needs
-
-merge-clusters-requires : tie.Need-merge-clusters-requires
-merge-clusters-requires c κs = search needs
-
-code-requires-2 : tie.Need-code-requires-2
-code-requires-2 c κs = search needs
 
 expect-requires-2 : tie.Need-expect-requires-2
 expect-requires-2 c κs =
     let at-call = c .before .before .before in
     eq-eqb (c .code2 .result) 5 (c .code2 .ensures ∙ ap codeOf (answers (at-call .merge-clusters .ensures) (few (at-call .before .before .before .before .before .before .before))) ∙ past-code)
 
-slice-aggregate-replace-glyphs-4 : tie.Need-slice-aggregate-replace-glyphs-4
-slice-aggregate-replace-glyphs-4 c = search needs
-
-slice-aggregate-replace-glyphs-5 : tie.Need-slice-aggregate-replace-glyphs-5
-slice-aggregate-replace-glyphs-5 c = search needs
-
-slice-aggregate-replace-glyphs-6 : tie.Need-slice-aggregate-replace-glyphs-6
-slice-aggregate-replace-glyphs-6 c = search needs
-
-replace-glyphs-requires-2 : tie.Need-replace-glyphs-requires-2
-replace-glyphs-requires-2 c κs = search needs
-
-code-requires-3 : tie.Need-code-requires-3
-code-requires-3 c κs = search needs
-
 expect-requires-3 : tie.Need-expect-requires-3
 expect-requires-3 c κs =
     let at-call = c .before .before .before in
     eq-eqb (c .code3 .result) 2 (c .code3 .ensures ∙ ap codeOf (answers (at-call .replace-glyphs2 .ensures) (past (at-call .before .before .before .before .before .before .before .before))) ∙ full-code)
-
-slice-aggregate-output-glyph : tie.Need-slice-aggregate-output-glyph
-slice-aggregate-output-glyph c = search needs
-
-slice-aggregate-output-glyph-2 : tie.Need-slice-aggregate-output-glyph-2
-slice-aggregate-output-glyph-2 c = search needs
-
-output-glyph-requires : tie.Need-output-glyph-requires
-output-glyph-requires c κs = search needs
-
-code-requires-4 : tie.Need-code-requires-4
-code-requires-4 c κs = search needs
 
 expect-requires-4 : tie.Need-expect-requires-4
 expect-requires-4 c κs =
     let at-call = c .before .before .before in
     eq-eqb (c .code4 .result) 7 (c .code4 .ensures ∙ ap codeOf (answers (at-call .output-glyph .ensures) (full (at-call .before .before .before .before .before .before .before))) ∙ over-code)
 
-slice-aggregate-delete-glyph : tie.Need-slice-aggregate-delete-glyph
-slice-aggregate-delete-glyph c = search needs
-
-slice-aggregate-delete-glyph-2 : tie.Need-slice-aggregate-delete-glyph-2
-slice-aggregate-delete-glyph-2 c = search needs
-
-delete-glyph-requires : tie.Need-delete-glyph-requires
-delete-glyph-requires c κs = search needs
-
-code-requires-5 : tie.Need-code-requires-5
-code-requires-5 c κs = search needs
-
 expect-requires-5 : tie.Need-expect-requires-5
 expect-requires-5 c κs =
     let at-call = c .before .before .before in
     eq-eqb (c .code5 .result) 5 (c .code5 .ensures ∙ ap codeOf (answers (at-call .delete-glyph .ensures) (over (at-call .before .before .before .before .before .before .before))) ∙ none-code)
 
-returns : tie.Need-returns
-returns c = search needs
-
 pub expected-spec : {M : Type 1} → statement M
 expected-spec =
     tie.close
-    (tie.spec
-    start-requires
-    slice-aggregate-clear-output
-    slice-aggregate-clear-output-2
-    clear-output-requires
-    slice-aggregate-replace-glyphs
-    slice-aggregate-replace-glyphs-2
-    slice-aggregate-replace-glyphs-3
-    replace-glyphs-requires
-    code-requires
-    expect-requires
-    slice-aggregate-merge-clusters
-    slice-aggregate-merge-clusters-2
-    merge-clusters-requires
-    code-requires-2
-    expect-requires-2
-    slice-aggregate-replace-glyphs-4
-    slice-aggregate-replace-glyphs-5
-    slice-aggregate-replace-glyphs-6
-    replace-glyphs-requires-2
-    code-requires-3
-    expect-requires-3
-    slice-aggregate-output-glyph
-    slice-aggregate-output-glyph-2
-    output-glyph-requires
-    code-requires-4
-    expect-requires-4
-    slice-aggregate-delete-glyph
-    slice-aggregate-delete-glyph-2
-    delete-glyph-requires
-    code-requires-5
-    expect-requires-5
-    returns)
+    (tie.spec (λ c κs. search needs) (λ c. search needs) (λ c. search needs) (λ c κs. search needs)
+    (λ c. search needs) (λ c. search needs) (λ c. search needs) (λ c κs. search needs)
+    (λ c κs. search needs) expect-requires (λ c. search needs) (λ c. search needs)
+    (λ c κs. search needs) (λ c κs. search needs) expect-requires-2 (λ c. search needs)
+    (λ c. search needs) (λ c. search needs) (λ c κs. search needs) (λ c κs. search needs)
+    expect-requires-3 (λ c. search needs) (λ c. search needs) (λ c κs. search needs)
+    (λ c κs. search needs) expect-requires-4 (λ c. search needs) (λ c. search needs)
+    (λ c κs. search needs) (λ c κs. search needs) expect-requires-5 (λ c. search needs))

@@ -28,137 +28,39 @@ synced : (c : tie.After-sync) → At 6 a₅ (c .sync .result .buffer) (c .sync .
 unfolding a₅
 synced c = leaves (c .sync .ensures) (back (c .before .before .before .before .before .before .before)) (c .sync .kept .1 .0)
 
-start-requires : tie.Need-start-requires
-start-requires c κs = search needs
-
-slice-aggregate-clear-output : tie.Need-slice-aggregate-clear-output
-slice-aggregate-clear-output c = search needs
-
-slice-aggregate-clear-output-2 : tie.Need-slice-aggregate-clear-output-2
-slice-aggregate-clear-output-2 c = search needs
-
-clear-output-requires : tie.Need-clear-output-requires
-clear-output-requires c κs = search needs
-
-slice-aggregate-next-glyphs : tie.Need-slice-aggregate-next-glyphs
-slice-aggregate-next-glyphs c = search needs
-
-slice-aggregate-next-glyphs-2 : tie.Need-slice-aggregate-next-glyphs-2
-slice-aggregate-next-glyphs-2 c = search needs
-
-next-glyphs-requires : tie.Need-next-glyphs-requires
-next-glyphs-requires c κs = search needs
-
-code-requires : tie.Need-code-requires
-code-requires c κs = search needs
-
 expect-requires : tie.Need-expect-requires
 expect-requires c κs =
     let at-call = c .before .before .before in
     eq-eqb (c .code .result) 5 (c .code .ensures ∙ ap codeOf (answers (at-call .next-glyphs .ensures) (opened (at-call .before .before .before))) ∙ far-code)
-
-slice-aggregate-next-glyphs-3 : tie.Need-slice-aggregate-next-glyphs-3
-slice-aggregate-next-glyphs-3 c = search needs
-
-slice-aggregate-next-glyphs-4 : tie.Need-slice-aggregate-next-glyphs-4
-slice-aggregate-next-glyphs-4 c = search needs
-
-next-glyphs-requires-2 : tie.Need-next-glyphs-requires-2
-next-glyphs-requires-2 c κs = search needs
-
-code-requires-2 : tie.Need-code-requires-2
-code-requires-2 c κs = search needs
 
 expect-requires-2 : tie.Need-expect-requires-2
 expect-requires-2 c κs =
     let at-call = c .before .before .before in
     eq-eqb (c .code2 .result) 2 (c .code2 .ensures ∙ ap codeOf (answers (at-call .next-glyphs2 .ensures) (far (at-call .before .before .before .before .before .before .before))) ∙ there-code)
 
-slice-aggregate-move-to : tie.Need-slice-aggregate-move-to
-slice-aggregate-move-to c = search needs
-
-slice-aggregate-move-to-2 : tie.Need-slice-aggregate-move-to-2
-slice-aggregate-move-to-2 c = search needs
-
-move-to-requires : tie.Need-move-to-requires
-move-to-requires c κs = search needs
-
-code-requires-3 : tie.Need-code-requires-3
-code-requires-3 c κs = search needs
-
 expect-requires-3 : tie.Need-expect-requires-3
 expect-requires-3 c κs =
     let at-call = c .before .before .before in
     eq-eqb (c .code3 .result) 1 (c .code3 .ensures ∙ ap codeOf (answers (at-call .move-to .ensures) (there (at-call .before .before .before .before .before .before .before))) ∙ back-code)
-
-slice-aggregate-sync : tie.Need-slice-aggregate-sync
-slice-aggregate-sync c = search needs
-
-slice-aggregate-sync-2 : tie.Need-slice-aggregate-sync-2
-slice-aggregate-sync-2 c = search needs
-
-sync-requires : tie.Need-sync-requires
-sync-requires c κs = search needs
-
-code-requires-4 : tie.Need-code-requires-4
-code-requires-4 c κs = search needs
 
 expect-requires-4 : tie.Need-expect-requires-4
 expect-requires-4 c κs =
     let at-call = c .before .before .before in
     eq-eqb (c .code4 .result) 1 (c .code4 .ensures ∙ ap codeOf (answers (at-call .sync .ensures) (back (at-call .before .before .before .before .before .before .before))) ∙ synced-code)
 
-slice-aggregate-sync-3 : tie.Need-slice-aggregate-sync-3
-slice-aggregate-sync-3 c = search needs
-
-slice-aggregate-sync-4 : tie.Need-slice-aggregate-sync-4
-slice-aggregate-sync-4 c = search needs
-
-sync-requires-2 : tie.Need-sync-requires-2
-sync-requires-2 c κs = search needs
-
-code-requires-5 : tie.Need-code-requires-5
-code-requires-5 c κs = search needs
-
 expect-requires-5 : tie.Need-expect-requires-5
 expect-requires-5 c κs =
     let at-call = c .before .before .before in
     eq-eqb (c .code5 .result) 4 (c .code5 .ensures ∙ ap codeOf (answers (at-call .sync2 .ensures) (synced (at-call .before .before .before .before .before .before .before))) ∙ again-code)
 
-returns : tie.Need-returns
-returns c = search needs
-
 pub expected-spec : {M : Type 1} → statement M
 expected-spec =
     tie.close
-    (tie.spec
-    start-requires
-    slice-aggregate-clear-output
-    slice-aggregate-clear-output-2
-    clear-output-requires
-    slice-aggregate-next-glyphs
-    slice-aggregate-next-glyphs-2
-    next-glyphs-requires
-    code-requires
-    expect-requires
-    slice-aggregate-next-glyphs-3
-    slice-aggregate-next-glyphs-4
-    next-glyphs-requires-2
-    code-requires-2
-    expect-requires-2
-    slice-aggregate-move-to
-    slice-aggregate-move-to-2
-    move-to-requires
-    code-requires-3
-    expect-requires-3
-    slice-aggregate-sync
-    slice-aggregate-sync-2
-    sync-requires
-    code-requires-4
-    expect-requires-4
-    slice-aggregate-sync-3
-    slice-aggregate-sync-4
-    sync-requires-2
-    code-requires-5
-    expect-requires-5
-    returns)
+    (tie.spec (λ c κs. search needs) (λ c. search needs) (λ c. search needs) (λ c κs. search needs)
+    (λ c. search needs) (λ c. search needs) (λ c κs. search needs) (λ c κs. search needs)
+    expect-requires (λ c. search needs) (λ c. search needs) (λ c κs. search needs)
+    (λ c κs. search needs) expect-requires-2 (λ c. search needs) (λ c. search needs)
+    (λ c κs. search needs) (λ c κs. search needs) expect-requires-3 (λ c. search needs)
+    (λ c. search needs) (λ c κs. search needs) (λ c κs. search needs) expect-requires-4
+    (λ c. search needs) (λ c. search needs) (λ c κs. search needs) (λ c κs. search needs)
+    expect-requires-5 (λ c. search needs))

@@ -17,23 +17,11 @@ abbrev μ-loop : tie.MeasureT-loop
 returns : tie.Need-returns Inv-loop μ-loop
 returns c stands = omega (arith, stands .0, c .if1 .taken)
 
-sub-if2 : tie.Need-sub-if2 Inv-loop μ-loop
-sub-if2 c = omega arith
-
 returns-2 : tie.Need-returns-2 Inv-loop μ-loop
 returns-2 c stands = omega (arith, stands .0, c .if2 .taken, c .before .if1 .left)
 
 loop-holds : tie.Need-loop-holds Inv-loop μ-loop
 loop-holds c = (omega arith, omega arith, refl)
-
-shared-slice-read-if3 : tie.Need-shared-slice-read-if3 Inv-loop μ-loop
-shared-slice-read-if3 c = search needs
-
-add-if3 : tie.Need-add-if3 Inv-loop μ-loop
-add-if3 c = omega arith
-
-shared-slice-read-if3-2 : tie.Need-shared-slice-read-if3-2 Inv-loop μ-loop
-shared-slice-read-if3-2 c = search needs
 
 returns-3 : tie.Need-returns-3 Inv-loop μ-loop
 returns-3 c stands =
@@ -41,20 +29,11 @@ returns-3 c stands =
     let loop = c .before .before .before .before .loop in
     c .if3 .taken (same-byte (a .line .now) (a .text .now) (a .at) (loop .i) (c .before .before .before .loop-test .taken) (stands .1))
 
-add-i : tie.Need-add-i Inv-loop μ-loop
-add-i c = omega arith
-
-loop-less : tie.Need-loop-less Inv-loop μ-loop
-loop-less c = omega arith
-
 loop-again : tie.Need-loop-again Inv-loop μ-loop
 loop-again c =
     let a = c .before .before .before .before .before .before .before .args in
     let loop = c .before .before .before .before .loop in
     (omega arith, loop .inv .1, same-more (a .line .now) (a .text .now) (a .at) (loop .i) (c .before .before .before .loop-test .taken) (loop .inv .1) (loop .inv .2) (c .if3 .left))
-
-add-t5 : tie.Need-add-t5 Inv-loop μ-loop
-add-t5 c = omega arith
 
 returns-4 : tie.Need-returns-4 Inv-loop μ-loop
 returns-4 c =
@@ -65,19 +44,6 @@ returns-4 c =
 pub find-spec : {M : Type 1} → statement M
 find-spec =
     tie.close
-    (tie.spec
-    Inv-loop
-    μ-loop
-    returns
-    sub-if2
-    returns-2
-    loop-holds
-    shared-slice-read-if3
-    add-if3
-    shared-slice-read-if3-2
-    returns-3
-    add-i
-    loop-less
-    loop-again
-    add-t5
-    returns-4)
+    (tie.spec Inv-loop μ-loop returns (λ c. omega arith) returns-2 loop-holds (λ c. search needs)
+    (λ c. omega arith) (λ c. search needs) returns-3 (λ c. omega arith) (λ c. omega arith)
+    loop-again (λ c. omega arith) returns-4)

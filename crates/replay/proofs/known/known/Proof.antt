@@ -6,9 +6,6 @@ use Rattle.replay.proofs.known.known.Tie as tie
 returns : tie.Need-returns
 returns c = search known-empty
 
-shared-slice-read-if2 : tie.Need-shared-slice-read-if2
-shared-slice-read-if2 c = search needs
-
 returns-2 : tie.Need-returns-2
 returns-2 c = search known-sum
 
@@ -16,4 +13,4 @@ returns-3 : tie.Need-returns-3
 returns-3 c = search known-other
 
 pub known-spec : {M : Type 1} → statement M
-known-spec = tie.close (tie.spec returns shared-slice-read-if2 returns-2 returns-3)
+known-spec = tie.close (tie.spec returns (λ c. search needs) returns-2 returns-3)

@@ -28,12 +28,6 @@ same-length-3 c = c .before .before .loop .inv .3
 same-length-4 : tie.Need-same-length-4 Inv-loop μ-loop
 same-length-4 c = c .before .before .loop .inv .4
 
-returns : tie.Need-returns Inv-loop μ-loop
-returns c = search needs
-
-one-requires : tie.Need-one-requires Inv-loop μ-loop
-one-requires c κs = search needs
-
 add-counter : tie.Need-add-counter Inv-loop μ-loop
 add-counter c = omega (arith, c .before .before .before .before .before .before .before .before .before .before .before .before .before .before .loop-test .taken)
 
@@ -58,27 +52,9 @@ same-length-7 c = c .before .loop .inv .3
 same-length-8 : tie.Need-same-length-8 Inv-loop μ-loop
 same-length-8 c = c .before .loop .inv .4
 
-returns-2 : tie.Need-returns-2 Inv-loop μ-loop
-returns-2 c = search needs
-
 pub all-spec : {M : Type 1} → statement M
 all-spec =
     tie.close
-    (tie.spec
-    Inv-loop
-    μ-loop
-    loop-holds
-    same-length
-    same-length-2
-    same-length-3
-    same-length-4
-    returns
-    one-requires
-    add-counter
-    loop-less
-    loop-again
-    same-length-5
-    same-length-6
-    same-length-7
-    same-length-8
-    returns-2)
+    (tie.spec Inv-loop μ-loop loop-holds same-length same-length-2 same-length-3 same-length-4
+    (λ c. search needs) (λ c κs. search needs) add-counter loop-less loop-again same-length-5
+    same-length-6 same-length-7 same-length-8 (λ c. search needs))

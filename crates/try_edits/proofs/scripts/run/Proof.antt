@@ -16,40 +16,10 @@ abbrev μ-loop : tie.MeasureT-loop
 loop-holds : tie.Need-loop-holds Inv-loop μ-loop
 loop-holds c = (omega arith, omega arith, refl, refl, omega arith)
 
-mul-at : tie.Need-mul-at Inv-loop μ-loop
-mul-at c = omega arith
-
-shared-slice-read-step : tie.Need-shared-slice-read-step Inv-loop μ-loop
-shared-slice-read-step c = omega arith
-
-add-step : tie.Need-add-step Inv-loop μ-loop
-add-step c = omega arith
-
-shared-slice-read-step-2 : tie.Need-shared-slice-read-step-2 Inv-loop μ-loop
-shared-slice-read-step-2 c = omega arith
-
-add-step-2 : tie.Need-add-step-2 Inv-loop μ-loop
-add-step-2 c = omega arith
-
-shared-slice-read-step-3 : tie.Need-shared-slice-read-step-3 Inv-loop μ-loop
-shared-slice-read-step-3 c = omega arith
-
-add-step-3 : tie.Need-add-step-3 Inv-loop μ-loop
-add-step-3 c = omega arith
-
-shared-slice-read-step-4 : tie.Need-shared-slice-read-step-4 Inv-loop μ-loop
-shared-slice-read-step-4 c = omega arith
-
-step-requires : tie.Need-step-requires Inv-loop μ-loop
-step-requires c κs = search needs
-
 add-i : tie.Need-add-i Inv-loop μ-loop
 add-i c =
     let in-loop = c .before .before .before .before .before .before .before .before .before .before .before in
     omega (arith, in-loop .loop-test .taken, in-loop .before .loop .inv .4)
-
-loop-less : tie.Need-loop-less Inv-loop μ-loop
-loop-less c = omega arith
 
 loop-again : tie.Need-loop-again Inv-loop μ-loop
 loop-again c =
@@ -63,28 +33,10 @@ same-length c = c .before .loop .inv .2
 same-length-2 : tie.Need-same-length-2 Inv-loop μ-loop
 same-length-2 c = c .before .loop .inv .3
 
-returns : tie.Need-returns Inv-loop μ-loop
-returns c = search needs
-
 pub run-spec : {M : Type 1} → statement M
 run-spec =
     tie.close
-    (tie.spec
-    Inv-loop
-    μ-loop
-    loop-holds
-    mul-at
-    shared-slice-read-step
-    add-step
-    shared-slice-read-step-2
-    add-step-2
-    shared-slice-read-step-3
-    add-step-3
-    shared-slice-read-step-4
-    step-requires
-    add-i
-    loop-less
-    loop-again
-    same-length
-    same-length-2
-    returns)
+    (tie.spec Inv-loop μ-loop loop-holds (λ c. omega arith) (λ c. omega arith) (λ c. omega arith)
+    (λ c. omega arith) (λ c. omega arith) (λ c. omega arith) (λ c. omega arith) (λ c. omega arith)
+    (λ c κs. search needs) add-i (λ c. omega arith) loop-again same-length same-length-2
+    (λ c. search needs))
