@@ -1,23 +1,22 @@
 use mathlib.Core.Path.{_∙_}
 use borrow.Author.Needs.{needs}
+use native.Mathlib.Omega.{arith}
 use Rattle.try_lists.proofs.across.Statement.{statement}
 use Rattle.try_lists.proofs.across.Tie as tie
 
 same-length : tie.Need-same-length
 same-length c =
-    let at-sync2 = c .before .before .before .before .before in
-    let at-sync = at-sync2 .before .before .before .before .before .before .before .before in
-    let at-move-to2 = at-sync .before .before .before .before .before .before .before .before in
-    let at-move-to = at-move-to2 .before .before .before .before .before .before .before .before .before .before .before .before in
-    at-sync2 .sync2 .kept .1 .0 ∙ at-sync .sync .kept .1 .0 ∙ at-move-to2 .move-to2 .kept .1 .0 ∙ at-move-to .move-to .kept .1 .0
+    let late = c .before .before .before .before .before .before .before .before in
+    let middle = late .before .before .before .before .before .before .before .before in
+    let early = middle .before .before .before .before .before .before .before .before in
+    omega (arith, late, middle, early)
 
 same-length-2 : tie.Need-same-length-2
 same-length-2 c =
-    let at-sync2 = c .before .before .before .before .before in
-    let at-sync = at-sync2 .before .before .before .before .before .before .before .before in
-    let at-move-to2 = at-sync .before .before .before .before .before .before .before .before in
-    let at-move-to = at-move-to2 .before .before .before .before .before .before .before .before .before .before .before .before in
-    at-sync2 .sync2 .kept .1 .1 .0 ∙ at-sync .sync .kept .1 .1 .0 ∙ at-move-to2 .move-to2 .kept .1 .1 .0 ∙ at-move-to .move-to .kept .1 .1 .0
+    let late = c .before .before .before .before .before .before .before .before in
+    let middle = late .before .before .before .before .before .before .before .before in
+    let early = middle .before .before .before .before .before .before .before .before in
+    omega (arith, late, middle, early)
 
 pub across-spec : {M : Type 1} → statement M
 across-spec =

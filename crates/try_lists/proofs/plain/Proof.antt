@@ -1,21 +1,22 @@
 use mathlib.Core.Path.{_∙_}
 use borrow.Author.Needs.{needs}
+use native.Mathlib.Omega.{arith}
 use Rattle.try_lists.proofs.plain.Statement.{statement}
 use Rattle.try_lists.proofs.plain.Tie as tie
 
 same-length : tie.Need-same-length
 same-length c =
-    let at-move-to = c .before .before .before .before .before .before .before .before .before .before .before .before .before in
-    let at-clear-positions = at-move-to .before .before .before .before .before .before .before .before .before .before .before .before in
-    let at-next-glyph = at-clear-positions .before .before .before .before .before .before .before .before in
-    at-move-to .move-to .kept .1 .0 ∙ at-clear-positions .clear-positions .kept .1 .0 ∙ at-next-glyph .next-glyph .kept .1 .0
+    let late = c .before .before .before .before .before .before .before .before in
+    let middle = late .before .before .before .before .before .before .before .before in
+    let early = middle .before .before .before .before .before .before .before .before in
+    omega (arith, late, middle, early)
 
 same-length-2 : tie.Need-same-length-2
 same-length-2 c =
-    let at-move-to = c .before .before .before .before .before .before .before .before .before .before .before .before .before in
-    let at-clear-positions = at-move-to .before .before .before .before .before .before .before .before .before .before .before .before in
-    let at-next-glyph = at-clear-positions .before .before .before .before .before .before .before .before in
-    at-move-to .move-to .kept .1 .1 .0 ∙ at-clear-positions .clear-positions .kept .1 .1 .0 ∙ at-next-glyph .next-glyph .kept .1 .1 .0
+    let late = c .before .before .before .before .before .before .before .before in
+    let middle = late .before .before .before .before .before .before .before .before in
+    let early = middle .before .before .before .before .before .before .before .before in
+    omega (arith, late, middle, early)
 
 pub plain-spec : {M : Type 1} → statement M
 plain-spec =

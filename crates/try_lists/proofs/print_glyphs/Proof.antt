@@ -2,6 +2,7 @@ use Rattle.records.proofs.View.{length-glyphs}
 use borrow.Author.Needs.{needs}
 use Prim.Native.Nat.{_≤_, _-_}
 use native.Mathlib.Omega.{arith}
+use Rattle.records.proofs.Tests.{tested}
 use Rattle.try_lists.proofs.print_glyphs.Statement.{statement}
 use Rattle.try_lists.proofs.print_glyphs.Tie as tie
 
@@ -12,7 +13,7 @@ abbrev μ-loop : tie.MeasureT-loop
 μ-loop ws i₀ t3 i-end i = i-end - i
 
 get-requires : tie.Need-get-requires Inv-loop μ-loop
-get-requires c κs = omega (arith, length-glyphs (c .before .before .before .before .args .ws .now))
+get-requires c κs = search (length-glyphs, tested, needs)
 
 pub print-glyphs-spec : {M : Type 1} → statement M
 print-glyphs-spec =

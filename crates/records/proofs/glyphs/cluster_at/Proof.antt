@@ -20,4 +20,5 @@ returns c = cluster-word _ _ (c .before .pre)
 
 pub cluster-at-spec : {M : Type 1} → statement M
 cluster-at-spec =
-    tie.close (tie.spec mul-result add-result mul-result-2 shared-slice-read-result returns)
+    tie.close
+    (tie.spec mul-result add-result mul-result-2 shared-slice-read-result returns)

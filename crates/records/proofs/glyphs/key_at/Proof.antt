@@ -36,14 +36,5 @@ returns-2 c = key-second _ _ (c .before .before .pre) _ _ (c .before .if1 .left)
 pub key-at-spec : {M : Type 1} → statement M
 key-at-spec =
     tie.close
-    (tie.spec
-    mul-at
-    add-at
-    mul-result
-    shared-slice-read-result
-    returns
-    mul-to
-    add-to
-    mul-result-2
-    shared-slice-read-result-2
-    returns-2)
+    (tie.spec mul-at add-at mul-result shared-slice-read-result returns mul-to add-to mul-result-2
+    shared-slice-read-result-2 returns-2)

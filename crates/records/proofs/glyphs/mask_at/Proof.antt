@@ -20,4 +20,5 @@ returns c = mask-word _ _ (c .before .pre)
 
 pub mask-at-spec : {M : Type 1} → statement M
 mask-at-spec =
-    tie.close (tie.spec mul-result add-result mul-result-2 shared-slice-read-result returns)
+    tie.close
+    (tie.spec mul-result add-result mul-result-2 shared-slice-read-result returns)

@@ -22,13 +22,10 @@ mul-ws-2 c = omega (arith, glyph-room _ _ (c .before .pre))
 slice-write-ws : tie.Need-slice-write-ws
 slice-write-ws c = omega (arith, glyph-room _ _ (c .before .pre))
 
-same-length : tie.Need-same-length
-same-length c = search needs
-
 returns : tie.Need-returns
 returns c = more-bits _ _ (c .before .pre) _
 
 pub or-mask-spec : {M : Type 1} → statement M
 or-mask-spec =
     tie.close
-    (tie.spec mul-at add-at mul-ws slice-read-ws mul-ws-2 slice-write-ws same-length returns)
+    (tie.spec mul-at add-at mul-ws slice-read-ws mul-ws-2 slice-write-ws (λ c. search needs) returns)

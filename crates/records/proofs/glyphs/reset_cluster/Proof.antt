@@ -16,11 +16,10 @@ mul-ws c = omega (arith, glyph-room _ _ (c .pre))
 slice-write-ws : tie.Need-slice-write-ws
 slice-write-ws c = omega (arith, glyph-room _ _ (c .pre))
 
-same-length : tie.Need-same-length
-same-length c = search needs
-
 returns : tie.Need-returns
 returns c = other-cluster _ _ (c .pre) _
 
 pub reset-cluster-spec : {M : Type 1} → statement M
-reset-cluster-spec = tie.close (tie.spec mul-to add-to mul-ws slice-write-ws same-length returns)
+reset-cluster-spec =
+    tie.close
+    (tie.spec mul-to add-to mul-ws slice-write-ws (λ c. search needs) returns)

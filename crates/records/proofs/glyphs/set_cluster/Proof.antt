@@ -48,9 +48,6 @@ mul-ws-4 c = omega (arith, glyph-room _ _ (c .before .before .before .pre))
 slice-write-ws-2 : tie.Need-slice-write-ws-2
 slice-write-ws-2 c = simp length-set (omega (arith, glyph-room _ _ (c .before .before .before .pre)))
 
-same-length : tie.Need-same-length
-same-length c = search needs
-
 returns : tie.Need-returns
 returns c = new-cluster _ _ (c .before .before .before .pre) _ _ (c .before .if1 .taken)
 
@@ -60,21 +57,5 @@ returns-2 c = same-cluster _ _ (c .before .before .pre) _ _ (c .if1 .left)
 pub set-cluster-spec : {M : Type 1} → statement M
 set-cluster-spec =
     tie.close
-    (tie.spec
-    mul-at
-    add-at
-    mul-to
-    add-to
-    mul-if1
-    slice-read-if1
-    mul-ws
-    slice-read-ws
-    mul-ws-2
-    add-ws
-    mul-ws-3
-    slice-write-ws
-    mul-ws-4
-    slice-write-ws-2
-    same-length
-    returns
-    returns-2)
+    (tie.spec mul-at add-at mul-to add-to mul-if1 slice-read-if1 mul-ws slice-read-ws mul-ws-2
+    add-ws mul-ws-3 slice-write-ws mul-ws-4 slice-write-ws-2 (λ c. search needs) returns returns-2)

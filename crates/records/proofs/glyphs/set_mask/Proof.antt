@@ -16,11 +16,8 @@ mul-ws c = omega (arith, glyph-room _ _ (c .pre))
 slice-write-ws : tie.Need-slice-write-ws
 slice-write-ws c = omega (arith, glyph-room _ _ (c .pre))
 
-same-length : tie.Need-same-length
-same-length c = search needs
-
 returns : tie.Need-returns
 returns c = new-mask _ _ (c .pre) _
 
 pub set-mask-spec : {M : Type 1} → statement M
-set-mask-spec = tie.close (tie.spec mul-at add-at mul-ws slice-write-ws same-length returns)
+set-mask-spec = tie.close (tie.spec mul-at add-at mul-ws slice-write-ws (λ c. search needs) returns)

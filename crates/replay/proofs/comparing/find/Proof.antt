@@ -17,9 +17,6 @@ abbrev μ-loop : tie.MeasureT-loop
 returns : tie.Need-returns Inv-loop μ-loop
 returns c stands = omega (arith, stands .0, c .if1 .taken)
 
-returns-2 : tie.Need-returns-2 Inv-loop μ-loop
-returns-2 c stands = omega (arith, stands .0, c .if2 .taken, c .before .if1 .left)
-
 loop-holds : tie.Need-loop-holds Inv-loop μ-loop
 loop-holds c = (omega arith, omega arith, refl)
 
@@ -30,20 +27,14 @@ returns-3 c stands =
     c .if3 .taken (same-byte (a .line .now) (a .text .now) (a .at) (loop .i) (c .before .before .before .loop-test .taken) (stands .1))
 
 loop-again : tie.Need-loop-again Inv-loop μ-loop
-loop-again c =
-    let a = c .before .before .before .before .before .before .before .args in
-    let loop = c .before .before .before .before .loop in
-    (omega arith, loop .inv .1, same-more (a .line .now) (a .text .now) (a .at) (loop .i) (c .before .before .before .loop-test .taken) (loop .inv .1) (loop .inv .2) (c .if3 .left))
+loop-again c = search (same-more, needs)
 
 returns-4 : tie.Need-returns-4 Inv-loop μ-loop
-returns-4 c =
-    let a = c .before .before .before .before .args in
-    let loop = c .before .loop in
-    same-whole (a .line .now) (a .text .now) (a .at) (loop .i) (loop .inv .0) (c .loop-test .left) (loop .inv .1) (loop .inv .2)
+returns-4 c = search (same-whole, needs)
 
 pub find-spec : {M : Type 1} → statement M
 find-spec =
     tie.close
-    (tie.spec Inv-loop μ-loop returns (λ c. omega arith) returns-2 loop-holds (λ c. search needs)
-    (λ c. omega arith) (λ c. search needs) returns-3 (λ c. omega arith) (λ c. omega arith)
-    loop-again (λ c. omega arith) returns-4)
+    (tie.spec Inv-loop μ-loop returns (λ c. omega arith) (λ c stands. search needs) loop-holds
+    (λ c. search needs) (λ c. omega arith) (λ c. search needs) returns-3 (λ c. omega arith)
+    (λ c. omega arith) loop-again (λ c. omega arith) returns-4)

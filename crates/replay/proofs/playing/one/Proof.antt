@@ -1,15 +1,13 @@
-use mathlib.Core.Path.{sym}
 use lib.Seq.{length-take-le}
 use borrow.Author.Needs.{needs}
-use native.Mathlib.Omega.{arith}
 use Rattle.replay.proofs.playing.one.Statement.{statement}
 use Rattle.replay.proofs.playing.one.Tie as tie
 
 slice-aggregate-lent : tie.Need-slice-aggregate-lent
-slice-aggregate-lent c = sym (length-take-le _ _ (omega (arith, c .before .before .before .before .before .before .before .before .before .before .before .string .ensures)))
+slice-aggregate-lent c = search (length-take-le, needs)
 
 slice-aggregate-lent-2 : tie.Need-slice-aggregate-lent-2
-slice-aggregate-lent-2 c = sym (length-take-le _ _ (omega (arith, c .before .before .before .before .before .before .before .string2 .ensures)))
+slice-aggregate-lent-2 c = search (length-take-le, needs)
 
 pub one-spec : {M : Type 1} → statement M
 one-spec =
