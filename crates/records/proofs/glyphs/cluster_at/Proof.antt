@@ -1,5 +1,6 @@
 use native.Mathlib.Omega.{arith}
 use Rattle.records.proofs.View.{glyph-room, cluster-word}
+use borrow.Author.Needs.{needs}
 use Rattle.records.proofs.glyphs.cluster_at.Statement.{statement}
 use Rattle.records.proofs.glyphs.cluster_at.Tie as tie
 
@@ -16,7 +17,7 @@ shared-slice-read-result : tie.Need-shared-slice-read-result
 shared-slice-read-result c = omega (arith, glyph-room _ _ (c .before .pre))
 
 returns : tie.Need-returns
-returns c = cluster-word _ _ (c .before .pre)
+returns c = search (cluster-word, needs)
 
 pub cluster-at-spec : {M : Type 1} → statement M
 cluster-at-spec =

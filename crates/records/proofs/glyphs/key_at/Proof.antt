@@ -1,5 +1,6 @@
 use native.Mathlib.Omega.{arith}
 use Rattle.records.proofs.View.{glyph-room, key-first, key-second}
+use borrow.Author.Needs.{needs}
 use Rattle.records.proofs.glyphs.key_at.Statement.{statement}
 use Rattle.records.proofs.glyphs.key_at.Tie as tie
 
@@ -16,7 +17,7 @@ shared-slice-read-result : tie.Need-shared-slice-read-result
 shared-slice-read-result c = omega (arith, glyph-room _ _ (c .before .before .pre))
 
 returns : tie.Need-returns
-returns c = key-first _ _ (c .before .before .pre) _ _ (c .before .if1 .taken)
+returns c = search (key-first, needs)
 
 mul-to : tie.Need-mul-to
 mul-to c = omega (arith, glyph-room _ _ (c .before .pre))
@@ -25,13 +26,13 @@ add-to : tie.Need-add-to
 add-to c = omega (arith, glyph-room _ _ (c .before .pre))
 
 mul-result-2 : tie.Need-mul-result-2
-mul-result-2 c = omega (arith, glyph-room _ _ (c .before .pre))
+mul-result-2 c = search (glyph-room, needs)
 
 shared-slice-read-result-2 : tie.Need-shared-slice-read-result-2
-shared-slice-read-result-2 c = omega (arith, glyph-room _ _ (c .before .before .pre))
+shared-slice-read-result-2 c = search (glyph-room, needs)
 
 returns-2 : tie.Need-returns-2
-returns-2 c = key-second _ _ (c .before .before .pre) _ _ (c .before .if1 .left)
+returns-2 c = search (key-second, needs)
 
 pub key-at-spec : {M : Type 1} → statement M
 key-at-spec =

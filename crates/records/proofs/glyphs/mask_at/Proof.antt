@@ -1,5 +1,6 @@
 use native.Mathlib.Omega.{arith}
 use Rattle.records.proofs.View.{glyph-room, mask-word}
+use borrow.Author.Needs.{needs}
 use Rattle.records.proofs.glyphs.mask_at.Statement.{statement}
 use Rattle.records.proofs.glyphs.mask_at.Tie as tie
 
@@ -16,7 +17,7 @@ shared-slice-read-result : tie.Need-shared-slice-read-result
 shared-slice-read-result c = omega (arith, glyph-room _ _ (c .before .pre))
 
 returns : tie.Need-returns
-returns c = mask-word _ _ (c .before .pre)
+returns c = search (mask-word, needs)
 
 pub mask-at-spec : {M : Type 1} → statement M
 mask-at-spec =

@@ -23,7 +23,7 @@ slice-write-ws : tie.Need-slice-write-ws
 slice-write-ws c = omega (arith, glyph-room _ _ (c .before .pre))
 
 returns : tie.Need-returns
-returns c = more-bits _ _ (c .before .pre) _
+returns c = search (more-bits, needs)
 
 pub or-mask-spec : {M : Type 1} → statement M
 or-mask-spec =

@@ -10,7 +10,7 @@ mul-write : tie.Need-mul-write
 mul-write c = omega (arith, glyph-room _ _ (c .before .before .pre))
 
 write-requires : tie.Need-write-requires
-write-requires c κs = glyph-room _ _ (c .before .before .pre)
+write-requires c κs = search (glyph-room, needs)
 
 returns : tie.Need-returns
 returns c = ap glyphs (c .before .before .write .ensures) ∙ put-glyphs _ _ (c .before .before .before .before .before .pre) _

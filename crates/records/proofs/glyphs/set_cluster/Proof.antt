@@ -49,10 +49,10 @@ slice-write-ws-2 : tie.Need-slice-write-ws-2
 slice-write-ws-2 c = simp length-set (omega (arith, glyph-room _ _ (c .before .before .before .pre)))
 
 returns : tie.Need-returns
-returns c = new-cluster _ _ (c .before .before .before .pre) _ _ (c .before .if1 .taken)
+returns c = search (new-cluster, needs)
 
 returns-2 : tie.Need-returns-2
-returns-2 c = same-cluster _ _ (c .before .before .pre) _ _ (c .if1 .left)
+returns-2 c = search (same-cluster, needs)
 
 pub set-cluster-spec : {M : Type 1} → statement M
 set-cluster-spec =

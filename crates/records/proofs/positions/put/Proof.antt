@@ -10,7 +10,7 @@ mul-write : tie.Need-mul-write
 mul-write c = omega (arith, place-room _ _ (c .before .before .pre))
 
 write-requires : tie.Need-write-requires
-write-requires c κs = place-room _ _ (c .before .before .pre)
+write-requires c κs = search (place-room, needs)
 
 returns : tie.Need-returns
 returns c = ap placements (c .before .before .write .ensures) ∙ put-placements _ _ (c .before .before .before .before .before .pre) _
