@@ -9,7 +9,7 @@ sub-n : tie.Need-sub-n
 sub-n c = omega (arith, gone-within)
 
 position-item-requires : tie.Need-position-item-requires
-position-item-requires c κs = places-in _ _ _ (c .before .before .before .before .before .pre)
+position-item-requires c κs = search (places-in, needs)
 
 returns : tie.Need-returns
 returns c = placed-at _ _ _ (search) _ (search) (search) (c .position-item .ensures)

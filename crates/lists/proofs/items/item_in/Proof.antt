@@ -7,7 +7,7 @@ returns : tie.Need-returns
 returns c = item-after _ _ _ (search) _ (search) (c .input-item .ensures)
 
 get-requires : tie.Need-get-requires
-get-requires c κs = apart-room _ _ _ (c .before .before .before .before .pre) _ (c .before .if1 .left)
+get-requires c κs = search (apart-room, needs)
 
 returns-2 : tie.Need-returns-2
 returns-2 c = done-apart _ _ _ (search) _ (search) (search) (c .get .ensures)

@@ -1,12 +1,11 @@
 use mathlib.Core.Path.{sym, _∙_}
-use native.Mathlib.Omega.{arith}
 use Rattle.lists.proofs.ItemLaws.{place-at, place-past}
 use borrow.Author.Needs.{needs}
 use Rattle.lists.proofs.items.position_item.Statement.{statement}
 use Rattle.lists.proofs.items.position_item.Tie as tie
 
 get-requires : tie.Need-get-requires
-get-requires c κs = omega (arith, c .before .before .before .before .before .pre, c .if2 .taken)
+get-requires c κs = search needs
 
 returns : tie.Need-returns
 returns c = place-at _ _ _ _ (sym (c .before .before .before .before .have-positions .ensures) ∙ c .before .before .before .if1 .taken) (c .before .if2 .taken) (c .before .before .before .before .before .before .pre) (c .get .ensures)

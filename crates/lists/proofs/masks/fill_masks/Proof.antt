@@ -3,6 +3,7 @@ use Prim.Native.Nat.{_-_}
 use native.Mathlib.Omega.{arith}
 use Rattle.records.specs.Glyphs.{withMask}
 use Rattle.lists.proofs.Editing.{Editing, editing-none, editing-more, editing-done}
+use borrow.Author.Needs.{needs}
 use Rattle.lists.proofs.masks.fill_masks.Statement.{statement}
 use Rattle.lists.proofs.masks.fill_masks.Tie as tie
 
@@ -25,13 +26,10 @@ loop-less : tie.Need-loop-less Inv-loop μ-loop
 loop-less c = omega arith
 
 loop-again : tie.Need-loop-again Inv-loop μ-loop
-loop-again c =
-    let call = c .before .before in
-    let turn = call .before .before in
-    editing-more (turn .before .loop .inv) (turn .loop-test .taken) (call .set-mask .ensures) (call .set-mask .kept .0)
+loop-again c = search (editing-more, needs)
 
 same-length : tie.Need-same-length Inv-loop μ-loop
-same-length c = c .before .loop .inv .len
+same-length c = search needs
 
 returns : tie.Need-returns Inv-loop μ-loop
 returns c = editing-done (search) (c .loop-test .left)

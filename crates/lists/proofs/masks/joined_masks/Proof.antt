@@ -6,6 +6,7 @@ use Rattle.records.specs.Ranges.{infos}
 use Rattle.records.specs.View.{glyphs}
 use Rattle.lists.proofs.Infos.{length-words, word-of}
 use Rattle.lists.proofs.Joining.{Joining, joining-none, joining-more, joining-done}
+use borrow.Author.Needs.{needs}
 use Rattle.lists.proofs.masks.joined_masks.Statement.{statement}
 use Rattle.lists.proofs.masks.joined_masks.Tie as tie
 
@@ -34,7 +35,7 @@ loop-again c =
     joining-more (at .loop .inv) (c .before .loop-test .taken) (rw (length-words (λ (j : Info). j .mask) (glyphs ws)) (at .before .before .pre .1)) _ _ (c .mask-at .ensures ∙ word-of (λ (j : Info). j .mask) (glyphs ws) _ 0 (omega arith)) refl
 
 returns : tie.Need-returns Inv-loop μ-loop
-returns c = joining-done (c .before .loop .inv) (c .loop-test .left)
+returns c = search (joining-done, needs)
 
 pub joined-masks-spec : {M : Type 1} → statement M
 joined-masks-spec = tie.close (tie.spec Inv-loop μ-loop loop-holds sub-i mask-at-requires loop-less loop-again returns)

@@ -6,6 +6,7 @@ use Rattle.records.specs.Ranges.{clusters, is}
 use Rattle.records.specs.View.{glyphs}
 use Rattle.records.proofs.View.{length-clusters}
 use Rattle.lists.proofs.Runs.{Ahead, ahead-none, ahead-more, ahead-stop, ahead-done}
+use borrow.Author.Needs.{needs}
 use Rattle.lists.proofs.ranges.equal_end.Statement.{statement}
 use Rattle.lists.proofs.ranges.equal_end.Tie as tie
 
@@ -22,9 +23,7 @@ cluster-at-requires : tie.Need-cluster-at-requires Inv-loop μ-loop
 cluster-at-requires c κs = omega arith
 
 returns : tie.Need-returns Inv-loop μ-loop
-returns c =
-    let at = c .before .before .before in
-    ahead-stop (at .loop .inv) (c .before .before .loop-test .taken) (rw (length-clusters (glyphs (at .before .before .args .ws .now))) (at .before .before .pre .1)) _ (c .before .cluster-at .ensures) (ne-eqb _ _ (c .if1 .taken))
+returns c = search (ahead-stop, length-clusters, glyphs, ne-eqb, needs)
 
 add-i : tie.Need-add-i Inv-loop μ-loop
 add-i c = omega arith
@@ -33,9 +32,7 @@ loop-less : tie.Need-loop-less Inv-loop μ-loop
 loop-less c = omega arith
 
 loop-again : tie.Need-loop-again Inv-loop μ-loop
-loop-again c =
-    let at = c .before .before .before in
-    ahead-more (at .loop .inv) (c .before .before .loop-test .taken) (rw (length-clusters (glyphs (at .before .before .args .ws .now))) (at .before .before .pre .1)) _ (c .before .cluster-at .ensures) (eq-eqb _ _ (c .if1 .left))
+loop-again c = search (ahead-more, length-clusters, glyphs, eq-eqb, needs)
 
 returns-2 : tie.Need-returns-2 Inv-loop μ-loop
 returns-2 c = ahead-done (search) (c .loop-test .left)

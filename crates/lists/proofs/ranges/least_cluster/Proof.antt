@@ -4,6 +4,7 @@ use Rattle.records.specs.Ranges.{clusters}
 use Rattle.records.specs.View.{glyphs}
 use Rattle.records.proofs.View.{length-clusters}
 use Rattle.lists.proofs.Runs.{Lowest, lowest-none, lowest-more, lowest-done}
+use borrow.Author.Needs.{needs}
 use Rattle.lists.proofs.ranges.least_cluster.Statement.{statement}
 use Rattle.lists.proofs.ranges.least_cluster.Tie as tie
 
@@ -39,7 +40,7 @@ loop-again-2 c =
     lowest-more (at .loop .inv) (c .before .before .loop-test .taken) (rw (length-clusters (glyphs (at .before .before .args .ws .now))) (at .before .before .pre .1)) _ _ (c .before .cluster-at .ensures) (omega arith)
 
 returns : tie.Need-returns Inv-loop μ-loop
-returns c = lowest-done (c .before .loop .inv) (c .loop-test .left)
+returns c = search (lowest-done, needs)
 
 pub least-cluster-spec : {M : Type 1} → statement M
 least-cluster-spec = tie.close (tie.spec Inv-loop μ-loop loop-holds sub-i cluster-at-requires loop-less loop-again loop-less-2 loop-again-2 returns)

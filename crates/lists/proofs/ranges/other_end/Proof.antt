@@ -1,5 +1,5 @@
 -- None from s up to i is of the cluster.
-use mathlib.Core.{Path.ap, Bool.not}
+use mathlib.Core.{Bool.not}
 use Prim.Native.Nat.{_-_}
 use native.Mathlib.Omega.{arith}
 use borrow.Author.Tests.{eq-eqb, ne-eqb}
@@ -7,6 +7,7 @@ use Rattle.records.specs.Ranges.{clusters, isnt}
 use Rattle.records.specs.View.{glyphs}
 use Rattle.records.proofs.View.{length-clusters}
 use Rattle.lists.proofs.Runs.{Ahead, ahead-none, ahead-more, ahead-stop, ahead-done}
+use borrow.Author.Needs.{needs}
 use Rattle.lists.proofs.ranges.other_end.Statement.{statement}
 use Rattle.lists.proofs.ranges.other_end.Tie as tie
 
@@ -23,9 +24,7 @@ cluster-at-requires : tie.Need-cluster-at-requires Inv-loop μ-loop
 cluster-at-requires c κs = omega arith
 
 returns : tie.Need-returns Inv-loop μ-loop
-returns c =
-    let at = c .before .before .before in
-    ahead-stop (at .loop .inv) (c .before .before .loop-test .taken) (rw (length-clusters (glyphs (at .before .before .args .ws .now))) (at .before .before .pre .1)) _ (c .before .cluster-at .ensures) (ap not (eq-eqb _ _ (c .if1 .taken)))
+returns c = search (ahead-stop, length-clusters, glyphs, not, eq-eqb, needs)
 
 add-i : tie.Need-add-i Inv-loop μ-loop
 add-i c = omega arith
@@ -34,9 +33,7 @@ loop-less : tie.Need-loop-less Inv-loop μ-loop
 loop-less c = omega arith
 
 loop-again : tie.Need-loop-again Inv-loop μ-loop
-loop-again c =
-    let at = c .before .before .before in
-    ahead-more (at .loop .inv) (c .before .before .loop-test .taken) (rw (length-clusters (glyphs (at .before .before .args .ws .now))) (at .before .before .pre .1)) _ (c .before .cluster-at .ensures) (ap not (ne-eqb _ _ (c .if1 .left)))
+loop-again c = search (ahead-more, length-clusters, glyphs, not, ne-eqb, needs)
 
 returns-2 : tie.Need-returns-2 Inv-loop μ-loop
 returns-2 c = ahead-done (search) (c .loop-test .left)

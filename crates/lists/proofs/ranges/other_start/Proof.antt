@@ -1,11 +1,12 @@
 -- None from i up to e is of the cluster.
-use mathlib.Core.{Path.ap, Bool.not}
+use mathlib.Core.{Bool.not}
 use native.Mathlib.Omega.{arith}
 use borrow.Author.Tests.{eq-eqb, ne-eqb}
 use Rattle.records.specs.Ranges.{clusters, isnt}
 use Rattle.records.specs.View.{glyphs}
 use Rattle.records.proofs.View.{length-clusters}
 use Rattle.lists.proofs.Runs.{Behind, behind-none, behind-more, behind-stop, behind-done}
+use borrow.Author.Needs.{needs}
 use Rattle.lists.proofs.ranges.other_start.Statement.{statement}
 use Rattle.lists.proofs.ranges.other_start.Tie as tie
 
@@ -25,9 +26,7 @@ cluster-at-requires : tie.Need-cluster-at-requires Inv-loop μ-loop
 cluster-at-requires c κs = omega arith
 
 returns : tie.Need-returns Inv-loop μ-loop
-returns c =
-    let at = c .before .before .before in
-    behind-stop (at .loop .inv) (c .before .before .loop-test .taken) (rw (length-clusters (glyphs (at .before .before .args .ws .now))) (at .before .before .pre)) _ (c .before .cluster-at .ensures) (ap not (eq-eqb _ _ (c .if1 .taken)))
+returns c = search (behind-stop, length-clusters, glyphs, not, eq-eqb, needs)
 
 sub-i : tie.Need-sub-i Inv-loop μ-loop
 sub-i c = omega arith
@@ -36,9 +35,7 @@ loop-less : tie.Need-loop-less Inv-loop μ-loop
 loop-less c = omega arith
 
 loop-again : tie.Need-loop-again Inv-loop μ-loop
-loop-again c =
-    let at = c .before .before .before in
-    behind-more (at .loop .inv) (c .before .before .loop-test .taken) (rw (length-clusters (glyphs (at .before .before .args .ws .now))) (at .before .before .pre)) _ (c .before .cluster-at .ensures) (ap not (ne-eqb _ _ (c .if1 .left)))
+loop-again c = search (behind-more, length-clusters, glyphs, not, ne-eqb, needs)
 
 returns-2 : tie.Need-returns-2 Inv-loop μ-loop
 returns-2 c = behind-done (search) (c .loop-test .left)

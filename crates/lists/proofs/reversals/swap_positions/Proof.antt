@@ -1,4 +1,3 @@
-use native.Mathlib.Omega.{arith}
 use Rattle.records.specs.View.{placements}
 use Rattle.records.proofs.View.{placements-same}
 use Rattle.lists.proofs.Turns.{exchange-is}
@@ -7,18 +6,10 @@ use Rattle.lists.proofs.reversals.swap_positions.Statement.{statement}
 use Rattle.lists.proofs.reversals.swap_positions.Tie as tie
 
 put-requires-2 : tie.Need-put-requires-2
-put-requires-2 c κs =
-    let put = c .before .before .before in
-    let s = put .before .before .before .before .before .before .before in
-    omega (arith, s .pre .1, placements-same (put .put .last .0) (s .args .ws .now) (put .put .kept .0))
+put-requires-2 c κs = search (placements-same, needs)
 
 returns : tie.Need-returns
-returns c =
-    let last = c .before .before in
-    let put = last .before .before .before .before in
-    let get = put .before .before in
-    let s = get .before .before .before .before .before in
-    exchange-is (placements (s .args .ws .now)) (placements (put .put .last .0)) (s .args .i) (s .args .j) (put .put .ensures) (last .put2 .ensures) (get .before .before .get .ensures) (get .get2 .ensures)
+returns c = search (exchange-is, placements, needs)
 
 pub swap-positions-spec : {M : Type 1} → statement M
 swap-positions-spec = tie.close (tie.spec (search needs) (search needs) (search needs) put-requires-2 (search needs) returns)

@@ -1,5 +1,6 @@
 use borrow.Author.Tests.{le-leb, lt-leb, le-ltb, lt-ltb}
 use Rattle.lists.specs.State.{roomFor}
+use borrow.Author.Needs.{needs}
 use Rattle.lists.proofs.state.room_for.Statement.{statement}
 use Rattle.lists.proofs.state.room_for.Tie as tie
 
@@ -9,15 +10,15 @@ returns c = simp (le-leb _ _ (c .if1 .taken))
 
 returns-2 : tie.Need-returns-2
 unfolding roomFor
-returns-2 c = simp (lt-leb _ _ (c .before .before .if1 .left), lt-ltb _ _ (c .if2 .taken))
+returns-2 c = search (lt-leb, lt-ltb, needs)
 
 returns-3 : tie.Need-returns-3
 unfolding roomFor
-returns-3 c = simp (lt-leb _ _ (c .before .before .before .if1 .left), le-ltb _ _ (c .before .if2 .left), lt-ltb _ _ (c .if3 .taken))
+returns-3 c = search (lt-leb, le-ltb, lt-ltb, needs)
 
 returns-4 : tie.Need-returns-4
 unfolding roomFor
-returns-4 c = simp (lt-leb _ _ (c .before .before .before .if1 .left), le-ltb _ _ (c .before .if2 .left), le-ltb _ _ (c .if3 .left))
+returns-4 c = search (lt-leb, le-ltb, needs)
 
 pub room-for-spec : {M : Type 1} → statement M
 room-for-spec = tie.close (tie.spec returns returns-2 returns-3 returns-4)
