@@ -16,6 +16,7 @@ pub mod Holding
 pub mod Lengths
 pub mod MarkLaws
 pub mod MergeCalls
+pub mod MergeDecisions
 pub mod MergeEach
 pub mod MergeLaws
 pub mod MergePlans

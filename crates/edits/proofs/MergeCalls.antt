@@ -168,57 +168,28 @@ module _ {b : Buffer} {run other : List ℕ} {s e : ℕ} (v : Mergeful b s e run
   unfolding goneOf
   out-low h = out-before (b .phase) (b .«have_separate_output») (b .idx .0) (b .len .0) (b .«out_len» .0) h (v .held .behind) (v .held .none)
 
-  module _ {l : Limits} {r : Buffer} {run′ : List ℕ} (el : l ≡ costs (e - s) (b .limits)) (er : r ≡ withLimitsOf l b) (lr : length run′ ≡ length run) where
-    pub lists-apart : {other′ : List ℕ} → (outputPhase (b .phase) && b .«have_separate_output») ≡ true → length other′ ≡ length other
-        → MergedApart (goneOf b) (b .idx .0) (b .len .0) (b .«out_len» .0) s e (glyphs run) (glyphs other) (glyphs run′) (glyphs other′)
-        → (Acts (merged (s - goneOf b) (e - goneOf b)) b run other r run′ other′) × (r ≡ withLimitsOf (r .limits) b)
+  module _ (run′ : List ℕ) where
+    pub apart-is : (other′ : List ℕ) → (outputPhase (b .phase) && b .«have_separate_output») ≡ true → MergedApart (goneOf b) (b .idx .0) (b .len .0) (b .«out_len» .0) s e (glyphs run) (glyphs other) (glyphs run′) (glyphs other′)
+        → accountOf (withLimitsOf (costs (e - s) (b .limits)) b) run′ other′ ≡ merged (s - goneOf b) (e - goneOf b) (accountOf b run other)
     unfolding withLimitsOf withLimits stateOf
-    lists-apart {other′} h lo m =
-        acts-paid (v .held) (merged (s - goneOf b) (e - goneOf b)) (e - s) el er lr lo (m .behind) (m .out-behind)
-        (account-apart b (costs (e - s) (b .limits)) run′ other′ h
-        ∙ (m .account (stateOf b) ∙ ap (merged (s - goneOf b) (e - goneOf b)) (sym (account-apart b (b .limits) run other h))))
+    apart-is other′ h m =
+        account-apart b (costs (e - s) (b .limits)) run′ other′ h
+        ∙ (m .account (stateOf b) ∙ ap (merged (s - goneOf b) (e - goneOf b)) (sym (account-apart b (b .limits) run other h)))
 
-    pub lists-within : (outputPhase (b .phase) && b .«have_separate_output») ≡ false → 2 ≤ e - s
-        → glyphs run′ ≡ mergedRun (mergePlan (b .idx .0) s e (cut (b .len .0) (glyphs run))) (mergedTail (mergePlan (b .idx .0) s e (cut (b .len .0) (glyphs run))) (b .«out_len» .0) (glyphs run))
-        → (Acts (merged (s - goneOf b) (e - goneOf b)) b run other r run′ other) × (r ≡ withLimitsOf (r .limits) b)
-    unfolding withLimitsOf withLimits stateOf
-    lists-within h two eg =
-        let bare : MergedWithin (goneOf b) (b .idx .0) (b .len .0) (b .«out_len» .0) s e (glyphs run) (glyphs run′) = merged-within (ready-within two) from-gone (out-low h) eg in
-        let m : MergedWithin (goneOf b) (b .idx .0) (b .len .0) (b .«out_len» .0) s e (shown (b .phase) run other) (shown (b .phase) run′ other) =
-        shown-merged run run′ other from-gone (out-low h) (b .phase) (v .whole) (ready-within two) eg in
-        acts-paid (v .held) (merged (s - goneOf b) (e - goneOf b)) (e - s) el er lr refl (bare .behind) refl
-        (account-within b (costs (e - s) (b .limits)) run′ other h (v .held .none)
-        ∙ (m .account (stateOf b) ∙ ap (merged (s - goneOf b) (e - goneOf b)) (sym (account-within b (b .limits) run other h (v .held .none)))))
+    module _ (h : (outputPhase (b .phase) && b .«have_separate_output») ≡ false) (two : 2 ≤ e - s) (eg : glyphs run′ ≡ mergedRun (mergePlan (b .idx .0) s e (cut (b .len .0) (glyphs run))) (mergedTail (mergePlan (b .idx .0) s e (cut (b .len .0) (glyphs run))) (b .«out_len» .0) (glyphs run))) where
+      pub within-is : accountOf (withLimitsOf (costs (e - s) (b .limits)) b) run′ other ≡ merged (s - goneOf b) (e - goneOf b) (accountOf b run other)
+      unfolding withLimitsOf withLimits stateOf
+      within-is =
+          let m : MergedWithin (goneOf b) (b .idx .0) (b .len .0) (b .«out_len» .0) s e (shown (b .phase) run other) (shown (b .phase) run′ other) =
+          shown-merged run run′ other from-gone (out-low h) (b .phase) (v .whole) (ready-within two) eg in
+          account-within b (costs (e - s) (b .limits)) run′ other h (v .held .none)
+          ∙ (m .account (stateOf b) ∙ ap (merged (s - goneOf b) (e - goneOf b)) (sym (account-within b (b .limits) run other h (v .held .none))))
 
-  -- ---- which of its four ways `merge` goes
+      pub within-behind : drop (b .len .0) (glyphs run′) ≡ drop (b .len .0) (glyphs run)
+      within-behind = merged-within (ready-within two) from-gone (out-low h) eg .behind
+
   pub width : e - goneOf b - (s - goneOf b) ≡ e - s
   width = omega (arith, v .start, v .order)
-
-  way-merge : (a : Account ℕ) (merges : Bool) → 2 ≤ e - s → merges ≡ true → merge merges (s - goneOf b) (e - goneOf b) a ≡ merged (s - goneOf b) (e - goneOf b) a
-  unfolding merge
-  way-merge a merges two h = rw (width, le-ltb (e - s) 2 two, h)
-
-  pub at-none : (merges : Bool) → e - s < 2 → (Acts (merge merges (s - goneOf b) (e - goneOf b)) b run other b run other) × (b ≡ withLimitsOf (b .limits) b)
-  unfolding merge
-  at-none merges h = acts-free (v .held) (merge merges (s - goneOf b) (e - goneOf b)) refl refl (rw (width, lt-ltb (e - s) 2 h))
-
-  pub at-merge : {merges : Bool} {r : Buffer} {run′ other′ : List ℕ} → 2 ≤ e - s → merges ≡ true → (Acts (merged (s - goneOf b) (e - goneOf b)) b run other r run′ other′) × (r ≡ withLimitsOf (r .limits) b)
-      → (Acts (merge merges (s - goneOf b) (e - goneOf b)) b run other r run′ other′) × (r ≡ withLimitsOf (r .limits) b)
-  at-merge {merges} two h m = (
-    record {
-      is = m .0 .is ∙ sym (way-merge (accountOf b run other) merges two h);
-      size = m .0 .size;
-      side = m .0 .side;
-      run-beyond = m .0 .run-beyond;
-      other-beyond = m .0 .other-beyond;
-      held = m .0 .held;
-    },
-    m .1,
-  )
-
-  pub at-over : {merges : Bool} → 2 ≤ e - s → merges ≡ false → 255 < e - s → (Acts (merge merges (s - goneOf b) (e - goneOf b)) b run other b run other) × (b ≡ withLimitsOf (b .limits) b)
-  unfolding merge
-  at-over {merges} two h far = acts-free (v .held) (merge merges (s - goneOf b) (e - goneOf b)) refl refl (rw (width, le-ltb (e - s) 2 two, h, lt-ltb 255 (e - s) far))
 
   pub flag-room : 2 ≤ e - s → (s < e) × (e ≤ length (glyphs run))
   flag-room two = (omega arith, omega (arith, v .end, v .held .len-in, v .held .all-in))
@@ -239,13 +210,6 @@ module _ {b : Buffer} {run other : List ℕ} {s e : ℕ} (v : Mergeful b s e run
 
     pub flag-behind : drop (b .len .0) (glyphs run′) ≡ drop (b .len .0) (glyphs run)
     flag-behind = rw eg (interior-behind (readLevel (b .level)) (sought (readLevel (b .level)) (slice s e (clusters (glyphs run)))) bits (b .len .0) s e (glyphs run) (v .order) (flag-room two .1) (v .end))
-
-  pub at-flag : {merges : Bool} {run′ : List ℕ} → 2 ≤ e - s → merges ≡ false → e - s ≤ 255 → length run′ ≡ length run
-      → glyphs run′ ≡ interior (readLevel (b .level)) (sought (readLevel (b .level)) (slice s e (clusters (glyphs run)))) 3 s e (glyphs run)
-      → (Acts (merge merges (s - goneOf b) (e - goneOf b)) b run other b run′ other) × (b ≡ withLimitsOf (b .limits) b)
-  unfolding merge
-  at-flag {merges} {run′} two h near lr eg =
-      acts-free (v .held) (merge merges (s - goneOf b) (e - goneOf b)) lr (flag-behind 3 run′ two eg) (flag-is 3 run′ two eg ∙ rw (width, le-ltb (e - s) 2 two, h, le-ltb 255 (e - s) near))
 
 -- ---- the tests of a call
 module _ (b : Buffer) where
@@ -269,24 +233,6 @@ module _ {level k : ℕ} (e : level ≡ k) where
 
   pub level-some : (level ≡ 0 → ⊥) → eqb level 3 ≡ graphemesMerge k
   level-some h = rw (← e, ne-eqb level 0 h)
-
--- ---- a call on the input
-module _ (merges : ℕ → Bool) (s e : InputPlace) (a : Account ℕ) where
-  input-spoiled : isSpoiled a ≡ true → mergeInput merges s e a ≡ refused WrongPhase
-  unfolding mergeInput refuse_when_else_
-  input-spoiled h = rw h
-
-  input-outside : isSpoiled a ≡ false → outsideInput s e a ≡ true → mergeInput merges s e a ≡ refused OutOfRange
-  unfolding mergeInput refuse_when_else_
-  input-outside h k = rw (h, k)
-
-  input-merges : isSpoiled a ≡ false → outsideInput s e a ≡ false → mergeInput merges s e a ≡ accepted (merge (merges (a .state .level)) (s .0 - a .state .gone) (e .0 - a .state .gone) a)
-  unfolding mergeInput refuse_when_else_
-  input-merges h k = rw (h, k)
-
-  input-level : (x : Bool) → x ≡ merges (a .state .level) → mergeInput merges s e a ≡ mergeInput (λ level. x) s e a
-  unfolding mergeInput
-  input-level x h = rw h
 
 pub neither-left : (x y : Bool) → (x || y) ≡ false → x ≡ false
 neither-left true y h = h
@@ -316,23 +262,3 @@ module _ {b : Buffer} {run other : List ℕ} (v : Held b run other) (s e : Input
           order = ltb-false (e .0) (s .0) (neither-left (ltb (e .0) (s .0)) _ none);
           end = ltb-false (b .len .0) (e .0) (neither-left (ltb (b .len .0) (e .0)) (ltb (s .0) (goneOf b)) more);
         }
-
-    module _ (merges : Bool) {r : Reply} {t : Bool} (et : t ≡ outside) where
-      pub in-outside : t ≡ true → r ≡ reply b (No OutOfRange) → MeetsIn (λ capacity a. mergeInput (λ level. merges) s e a) b run other r run other
-      in-outside k er = in-refused OutOfRange (input-outside (λ level. merges) s e _ (spoiled-of b run other ∙ h) (outside-of ∙ (sym et ∙ k))) v er
-
-      pub in-merges : {f : Buffer} {run′ other′ : List ℕ} → t ≡ false → Acts (merge merges (s .0 - goneOf b) (e .0 - goneOf b)) b run other f run′ other′ → r ≡ reply f Done
-          → MeetsIn (λ capacity a. mergeInput (λ level. merges) s e a) b run other r run′ other′
-      in-merges k u er =
-          in-acts u
-          (input-merges (λ level. merges) s e _ (spoiled-of b run other ∙ h) (outside-of ∙ (sym et ∙ k))
-          ∙ ap (λ (g : ℕ). accepted (merge merges (s .0 - g) (e .0 - g) (accountOf b run other))) (gone-of b run other)) er
-
-  pub in-spoiled : (merges : Bool) {r : Reply} → spoiledPhase (b .phase) ≡ true → r ≡ reply b (No WrongPhase) → MeetsIn (λ capacity a. mergeInput (λ level. merges) s e a) b run other r run other
-  in-spoiled merges h er = in-refused WrongPhase (input-spoiled (λ level. merges) s e _ (spoiled-of b run other ∙ h)) v er
-
--- the level says whether the call merges
-pub at-level : {b : Buffer} {run other : List ℕ} {r : Reply} {run′ other′ : List ℕ} {x : Bool} (merges : ℕ → Bool) (s e : InputPlace) → x ≡ merges (readLevel (b .level))
-    → MeetsIn (λ capacity a. mergeInput (λ level. x) s e a) b run other r run′ other′ → MeetsIn (λ capacity a. mergeInput (λ level. merges level) s e a) b run other r run′ other′
-unfolding accountOf stateOf
-at-level {b} {run} {other} {r} {run′} {other′} {x} merges s e h m = in-call (input-level merges s e (accountOf b run other) x h) m

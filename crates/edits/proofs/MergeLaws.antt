@@ -14,7 +14,7 @@ use Rattle.lists.proofs.Runs.{heads-le, tails-le}
 use Rattle.edits.specs.declared.{Merge.Merge}
 use Rattle.edits.specs.Merging.{mergeStart, mergeEnd, mergeTail, merged}
 use Rattle.edits.specs.Holding.{holds, paid, cut}
-use Rattle.edits.specs.Plans.{InputRange, Mergeable, InputFrom, MergedApart, MergedWithin, mergePlan, tailStart, mergedRun, mergedTail}
+use Rattle.edits.specs.Plans.{InputRange, Mergeable, InputFrom, MergedApart, MergedWithin, WrittenApart, WrittenWithin, mergePlan, tailStart, mergedRun, mergedTail}
 use Rattle.edits.proofs.Holding.{edit-take, edit-take-before, edit-drop-behind, slice-shift, length-slice-le}
 use Rattle.edits.proofs.Bridge.{input-is, input-clusters, done-is, done-clusters, holds-limiting, input-edit, input-kept}
 
@@ -177,10 +177,9 @@ module _ {run out : List (Glyph ℕ)} {gone idx len outLen s e : ℕ} (v : Merge
       }
 
   -- THE LAW of a merge with the output apart: of any two lists
-  pub merged-apart : {run′ out′ : List (Glyph ℕ)} → run′ ≡ mergedRun (mergePlan idx s e (cut len run)) run → out′ ≡ mergedTail (mergePlan idx s e (cut len run)) outLen out
-      → MergedApart gone idx len outLen s e run out run′ out′
+  pub merged-apart : {run′ out′ : List (Glyph ℕ)} → WrittenApart idx len outLen s e run out run′ out′ → MergedApart gone idx len outLen s e run out run′ out′
   unfolding mergedRun mergedTail
-  merged-apart er eo = planned-apart _ refl _ refl eo er
+  merged-apart q = planned-apart _ refl _ refl (q .out-is) (q .run-is)
 
 module _ {run : List (Glyph ℕ)} {gone idx len outLen s e : ℕ} (v : Mergeable run run len outLen s e) (w : InputFrom gone idx len s) (low : outLen ≤ gone) where
   planned-within : {mid run′ : List (Glyph ℕ)} (p : Merge) → p ≡ mergePlan idx s e (cut len run) → (at : ℕ) → at ≡ tailStart (p .tail) (p .leader) (cut outLen run) outLen
@@ -213,24 +212,23 @@ module _ {run : List (Glyph ℕ)} {gone idx len outLen s e : ℕ} (v : Mergeable
   merged-within er = planned-within _ refl _ refl refl er
 
 -- ---- what the functions write
-module _ {p P : Merge} (ep : p ≡ P) where
-  pub run-written : (l : List (Glyph ℕ)) {l′ : List (Glyph ℕ)} → l′ ≡ edit (p .from) (p .to) (setCluster (p .lowest) 0) l → l′ ≡ mergedRun P l
-  unfolding mergedRun
-  run-written l er = rw (← ep) er
+pub written-apart : {run out run′ out′ : List (Glyph ℕ)} {idx len outLen s e at : ℕ} {p : Merge} → p ≡ mergePlan idx s e (cut len run) → at ≡ tailStart (p .tail) (p .leader) (cut outLen out) outLen
+    → out′ ≡ edit at outLen (setCluster (p .lowest) 0) out → run′ ≡ edit (p .from) (p .to) (setCluster (p .lowest) 0) run → WrittenApart idx len outLen s e run out run′ out′
+unfolding mergedRun mergedTail
+written-apart ep ea eo er = record { run-is = rw (← ep) er; out-is = rw (← ep, ← ea) eo }
 
-  pub tail-written : (out : List (Glyph ℕ)) (outLen : ℕ) {out′ : List (Glyph ℕ)} {at : ℕ} → at ≡ tailStart (p .tail) (p .leader) (cut outLen out) outLen → out′ ≡ edit at outLen (setCluster (p .lowest) 0) out
-      → out′ ≡ mergedTail P outLen out
-  unfolding mergedTail
-  tail-written out outLen ea eo = rw (← ep, ← ea) eo
+pub written-within : {run mid run′ : List (Glyph ℕ)} {idx len outLen s e at : ℕ} {p : Merge} → p ≡ mergePlan idx s e (cut len run) → at ≡ tailStart (p .tail) (p .leader) (cut outLen run) outLen
+    → mid ≡ edit at outLen (setCluster (p .lowest) 0) run → run′ ≡ edit (p .from) (p .to) (setCluster (p .lowest) 0) mid → WrittenWithin idx len outLen s e run run′
+unfolding mergedRun mergedTail
+written-within ep ea em er = record { is = rw (← ep, ← ea, ← em) er }
 
-module _ {run out : List (Glyph ℕ)} {len outLen s e : ℕ} (v : Mergeable run out len outLen s e) (idx : ℕ) where
-  pub apart-written : {run′ out′ : List (Glyph ℕ)} (p : Merge) → p ≡ mergePlan idx s e (cut len run) → (at : ℕ) → at ≡ tailStart (p .tail) (p .leader) (cut outLen out) outLen
-      → out′ ≡ edit at outLen (setCluster (p .lowest) 0) out → run′ ≡ edit (p .from) (p .to) (setCluster (p .lowest) 0) run
-      → (run′ ≡ mergedRun (mergePlan idx s e (cut len run)) run) × (out′ ≡ mergedTail (mergePlan idx s e (cut len run)) outLen out) × ((gone : ℕ) → InputFrom gone idx len s → MergedApart gone idx len outLen s e run out run′ out′)
-  apart-written p ep at ea eo er = (run-written ep run er, tail-written ep out outLen ea eo, λ gone w. planned-apart v w p ep at ea eo er)
+-- where they write
+pub tail-room : (t : Bool) (c : ℕ) (ds : List ℕ) {outLen at : ℕ} → at ≡ tailStart t c ds outLen → at ≤ outLen
+tail-room t c ds {outLen} ea = rw ea (tail-most t c outLen ds)
 
-module _ {run : List (Glyph ℕ)} {len outLen s e : ℕ} (v : Mergeable run run len outLen s e) (idx : ℕ) where
-  pub within-written : {mid run′ : List (Glyph ℕ)} (p : Merge) → p ≡ mergePlan idx s e (cut len run) → (at : ℕ) → at ≡ tailStart (p .tail) (p .leader) (cut outLen run) outLen
-      → mid ≡ edit at outLen (setCluster (p .lowest) 0) run → run′ ≡ edit (p .from) (p .to) (setCluster (p .lowest) 0) mid
-      → (run′ ≡ mergedRun (mergePlan idx s e (cut len run)) (mergedTail (mergePlan idx s e (cut len run)) outLen run)) × ((gone : ℕ) → InputFrom gone idx len s → outLen ≤ gone → MergedWithin gone idx len outLen s e run run′)
-  within-written p ep at ea em er = (run-written ep _ er ∙ ap (mergedRun (mergePlan idx s e (cut len run))) (tail-written ep run outLen ea em), λ gone w low. planned-within v w low p ep at ea em er)
+module _ {run out : List (Glyph ℕ)} {len outLen s e : ℕ} (idx : ℕ) {p : Merge} (v : Mergeable run out len outLen s e) (ep : p ≡ mergePlan idx s e (cut len run)) where
+  pub run-order : p .from ≤ p .to
+  run-order = plan-order v idx p ep .0
+
+  pub run-room : (run′ : List (Glyph ℕ)) → length run′ ≡ length run → p .to ≤ length run′
+  run-room run′ same = omega (arith, plan-order v idx p ep .1, v .fits)

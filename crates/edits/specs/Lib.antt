@@ -12,6 +12,7 @@ pub mod FlagTable
 pub mod Holding
 pub mod Plans
 pub mod Acts
+pub mod MergeActs
 pub mod Wholes
 pub mod Fills
 pub mod Reversals

@@ -46,6 +46,14 @@ pub record Mergeable (run out : List (Glyph ℕ)) (len outLen s e : ℕ) : Type 
   pub fits : len ≤ length run
   pub out-fits : outLen ≤ length out
 
+-- what a merge writes: with the output apart, and with the output in the run, or none
+pub record WrittenApart (idx len outLen s e : ℕ) (run out run′ out′ : List (Glyph ℕ)) : Type 0 where
+  pub run-is : run′ ≡ mergedRun (mergePlan idx s e (cut len run)) run
+  pub out-is : out′ ≡ mergedTail (mergePlan idx s e (cut len run)) outLen out
+
+pub record WrittenWithin (idx len outLen s e : ℕ) (run run′ : List (Glyph ℕ)) : Type 0 where
+  pub is : run′ ≡ mergedRun (mergePlan idx s e (cut len run)) (mergedTail (mergePlan idx s e (cut len run)) outLen run)
+
 -- the input goes from place `gone` to place `len` of the run, the cursor is at idx, and s is in the input
 pub record InputFrom (gone idx len s : ℕ) : Type 0 where
   pub cursor : gone ≤ idx

@@ -12,6 +12,7 @@ pub mod flags;
 pub mod grouping;
 pub mod lent;
 pub mod marking;
+mod merge_acts;
 pub mod merges;
 pub mod merging;
 mod numbers;

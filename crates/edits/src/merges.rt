@@ -1,76 +1,38 @@
 // Merging: calls 11 to 14.
 ghost use mathlib.Core.Path.{_≡_};
-ghost use mathlib.Core.Bool.{false, _&&_, _||_};
+ghost use mathlib.Core.Bool.{true, false, _&&_, _||_};
 ghost use Prim.Native.Nat.{_-_, _≤_};
 ghost use lib.Dec.{ltb};
 ghost use Rattle.lists.specs.Account.{outputPhase, readLevel};
 ghost use Rattle.lists.specs.State.{Held, goneOf};
 ghost use Rattle.lists.specs.States.{withLimitsOf};
 ghost use Rattle.lists.specs.Contract.{Meets, MeetsIn};
-ghost use Rattle.edits.specs.Merging.{merge, merged, mergeInput, mergeOut, mergedOut, mergeDone, clustersMerge, graphemesMerge};
+ghost use Rattle.lists.specs.Verdicts.{Leaves};
+ghost use Rattle.edits.specs.Merging.{merge, mergeInput, mergeOut, mergedOut, mergeDone, clustersMerge, graphemesMerge};
 ghost use Rattle.edits.specs.Acts.{Acts, Mergeful, OutMergeful};
-use super::flags;
+ghost use Rattle.edits.specs.MergeActs.{mergeLimits, liesApart, MergesInput};
+use super::merge_acts;
 use super::merging;
 use lists::Buffer;
 use lists::Reply;
+use lists::Verdict;
 use lists::state;
+use lists::verdicts;
+use records::Answer;
 use records::DonePlace;
 use records::InputPlace;
 use records::Phase;
 use records::Refusal;
 
 // Whether there is an output and the other slice holds it.
-fn lies_apart(b: Buffer) -> bool
-    ensures { λ r. ⌜ r ≡ (outputPhase (b .phase) && b .«have_separate_output») ⌝ }
+pub(crate) fn lies_apart(b: Buffer) -> bool
+    ensures { λ r. ⌜ r ≡ liesApart b ⌝ }
 {
     let phase = b.phase;
     if state::have_output(phase) {
         return b.have_separate_output;
     }
     false
-}
-
-// A merge of at least two glyphs, with what it costs.
-fn merge_lists(b: Buffer, run: &mut [u32], other: &mut [u32], s: usize, e: usize) -> Buffer
-    requires { ⌜ (Mergeful b s e (now run) (now other)) × (2 ≤ e - s) ⌝ }
-    ensures { λ r. ⌜ (Acts (merged (s - goneOf b) (e - goneOf b)) b (now (run .entry)) (now (other .entry)) r (now (run .exit)) (now (other .exit))) × (r ≡ withLimitsOf (r .limits) b) × ((outputPhase (b .phase) && b .«have_separate_output») ≡ false → now (other .exit) ≡ now (other .entry)) ⌝ }
-{
-    let idx = b.idx.0;
-    let len = b.len.0;
-    let out_len = b.out_len.0;
-    let paid = state::with_limits(b, records::counters::pay(b.limits, e - s));
-    if lies_apart(b) {
-        merging::merge_apart(run, other, idx, len, out_len, s, e);
-        return paid;
-    }
-    merging::merge_within(run, idx, len, out_len, s, e);
-    paid
-}
-
-// A merge of the places s to e of the run, or the flags that stand for it.
-pub(crate) fn merge_at(
-    b: Buffer,
-    run: &mut [u32],
-    other: &mut [u32],
-    merges: bool,
-    s: usize,
-    e: usize,
-) -> Buffer
-    requires { ⌜ Mergeful b s e (now run) (now other) ⌝ }
-    ensures { λ r. ⌜ (Acts (merge merges (s - goneOf b) (e - goneOf b)) b (now (run .entry)) (now (other .entry)) r (now (run .exit)) (now (other .exit))) × (r ≡ withLimitsOf (r .limits) b) × ((outputPhase (b .phase) && b .«have_separate_output») ≡ false → now (other .exit) ≡ now (other .entry)) ⌝ }
-{
-    let n = e - s;
-    if n < 2 {
-        return b;
-    }
-    if merges {
-        return merge_lists(b, run, other, s, e);
-    }
-    if 255 < n {
-        return b;
-    }
-    flags::flag_range(run, b.level, 3, s, e);
-    b
 }
 
 pub fn clusters_merge(level: u32) -> bool
@@ -87,6 +49,35 @@ pub fn graphemes_merge(level: u32) -> bool
         return true;
     }
     known == 3
+}
+
+// A merge that another call makes on its way.
+pub(crate) fn merge_at(
+    b: Buffer,
+    run: &mut [u32],
+    other: &mut [u32],
+    merges: bool,
+    s: usize,
+    e: usize,
+) -> Buffer
+    requires { ⌜ Mergeful b s e (now run) (now other) ⌝ }
+    ensures { λ r. ⌜ (Acts (merge merges (s - goneOf b) (e - goneOf b)) b (now (run .entry)) (now (other .entry)) r (now (run .exit)) (now (other .exit))) × (r ≡ withLimitsOf (r .limits) b) × ((outputPhase (b .phase) && b .«have_separate_output») ≡ false → now (other .exit) ≡ now (other .entry)) ⌝ }
+{
+    let apart = lies_apart(b);
+    merge_acts::merge_by(
+        run,
+        other,
+        false,
+        apart,
+        merges,
+        b.level,
+        b.idx.0,
+        b.len.0,
+        b.out_len.0,
+        s,
+        e,
+    );
+    state::with_limits(b, merge_acts::merge_limits(b.limits, merges, e - s))
 }
 
 // The merge of clusters that another call makes on its way.
@@ -130,25 +121,36 @@ pub fn outside_input(b: Buffer, s: usize, e: usize) -> bool
     s < gone(b)
 }
 
-fn merge_in(
+// The verdict on a merge of n glyphs that goes ahead.
+fn goes_ahead(b: Buffer, merges: bool, n: usize) -> Verdict
+    ensures { λ v. ⌜ Leaves (withLimitsOf (mergeLimits merges n (b .limits)) b) true Answer.Done v ⌝ }
+{
+    let limits = merge_acts::merge_limits(b.limits, merges, n);
+    verdicts::verdict(state::with_limits(b, limits), true, Answer::Done)
+}
+
+// 11 and 13, which merge at some levels.
+fn merge_verdict(
     b: Buffer,
-    run: &mut [u32],
-    other: &mut [u32],
+    first: &[u32],
+    second: &[u32],
     merges: bool,
     start: InputPlace,
     end: InputPlace,
-) -> Reply
-    requires { ⌜ Held b (now run) (now other) ⌝ }
-    ensures { λ r. ⌜ MeetsIn (λ capacity a. mergeInput (λ level. merges) start end a) b (now (run .entry)) (now (other .entry)) r (now (run .exit)) (now (other .exit)) ⌝ }
+) -> Verdict
+    ensures { λ v. ⌜ MergesInput merges start end b (now (first .entry)) (now (second .entry)) v ⌝ }
 {
-    let phase = b.phase;
-    if state::is_spoiled(phase) {
-        return state::refusal(b, Refusal::WrongPhase);
+    if state::is_sound(b, first, second) {
+        let phase = b.phase;
+        if state::is_spoiled(phase) {
+            return verdicts::refused(b, Refusal::WrongPhase);
+        }
+        if outside_input(b, start.0, end.0) {
+            return verdicts::refused(b, Refusal::OutOfRange);
+        }
+        return goes_ahead(b, merges, end.0 - start.0);
     }
-    if outside_input(b, start.0, end.0) {
-        return state::refusal(b, Refusal::OutOfRange);
-    }
-    state::accepted(merge_at(b, run, other, merges, start.0, end.0))
+    verdicts::refused(b, Refusal::Contradiction)
 }
 
 // 11
@@ -161,14 +163,25 @@ pub fn merge_clusters(
 ) -> Reply
     ensures { λ r. ⌜ Meets (λ capacity a. mergeInput (λ level. clustersMerge level) start end a) b (now (first .entry)) (now (second .entry)) r (now (first .exit)) (now (second .exit)) ⌝ }
 {
-    if state::is_sound(b, first, second) {
-        let merges = clusters_merge(b.level);
-        if b.swapped {
-            return merge_in(b, second, first, merges, start, end);
-        }
-        return merge_in(b, first, second, merges, start, end);
+    let merges = clusters_merge(b.level);
+    let apart = lies_apart(b);
+    let v = merge_verdict(b, first, second, merges, start, end);
+    if v.acts {
+        merge_acts::merge_by(
+            first,
+            second,
+            b.swapped,
+            apart,
+            merges,
+            b.level,
+            b.idx.0,
+            b.len.0,
+            b.out_len.0,
+            start.0,
+            end.0,
+        );
     }
-    state::refusal(b, Refusal::Contradiction)
+    verdicts::settled(b, v)
 }
 
 // 13
@@ -181,14 +194,25 @@ pub fn merge_grapheme_clusters(
 ) -> Reply
     ensures { λ r. ⌜ Meets (λ capacity a. mergeInput (λ level. graphemesMerge level) start end a) b (now (first .entry)) (now (second .entry)) r (now (first .exit)) (now (second .exit)) ⌝ }
 {
-    if state::is_sound(b, first, second) {
-        let merges = graphemes_merge(b.level);
-        if b.swapped {
-            return merge_in(b, second, first, merges, start, end);
-        }
-        return merge_in(b, first, second, merges, start, end);
+    let merges = graphemes_merge(b.level);
+    let apart = lies_apart(b);
+    let v = merge_verdict(b, first, second, merges, start, end);
+    if v.acts {
+        merge_acts::merge_by(
+            first,
+            second,
+            b.swapped,
+            apart,
+            merges,
+            b.level,
+            b.idx.0,
+            b.len.0,
+            b.out_len.0,
+            start.0,
+            end.0,
+        );
     }
-    state::refusal(b, Refusal::Contradiction)
+    verdicts::settled(b, v)
 }
 
 // A merge of at least two glyphs of the output, with what it costs.

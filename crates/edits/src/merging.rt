@@ -1,14 +1,14 @@
 // Merges of ranges of glyphs. A plan only reads; then the glyphs are written.
 ghost use mathlib.Core.Path.{_≡_};
 ghost use mathlib.Core.Bool.{_&&_};
-ghost use Prim.Native.Nat.{ℕ, _≤_, _<_};
+ghost use Prim.Native.Nat.{_≤_, _<_};
 ghost use lib.ListN.{length};
 ghost use lib.Seq.{slice};
 ghost use Rattle.records.specs.Ranges.{clusters};
 ghost use Rattle.records.specs.View.{glyphs};
 ghost use Rattle.edits.specs.Merging.{mergeStart, mergeEnd};
 ghost use Rattle.edits.specs.Holding.{cut};
-ghost use Rattle.edits.specs.Plans.{MergeRange, mergePlan, tailStart, mergedRun, mergedTail, Mergeable, InputFrom, MergedApart, MergedWithin, outPlan, headEnd, mergedOutput, mergedHead, OutMergeable, MergedOutApart, MergedOutWithin};
+ghost use Rattle.edits.specs.Plans.{MergeRange, mergePlan, tailStart, Mergeable, WrittenApart, WrittenWithin, outPlan, headEnd, mergedOutput, mergedHead, OutMergeable, MergedOutApart, MergedOutWithin};
 use super::Merge;
 use super::OutMerge;
 
@@ -84,9 +84,7 @@ pub(crate) fn merge_apart(
     e: usize,
 )
     requires { ⌜ Mergeable (glyphs (now run)) (glyphs (now out)) len «out_len» s e ⌝ }
-    ensures { λ r. ⌜ (glyphs (now (run .exit)) ≡ mergedRun (mergePlan idx s e (cut len (glyphs (now (run .entry))))) (glyphs (now (run .entry))))
-        × (glyphs (now (out .exit)) ≡ mergedTail (mergePlan idx s e (cut len (glyphs (now (run .entry))))) «out_len» (glyphs (now (out .entry))))
-        × ((gone : ℕ) → InputFrom gone idx len s → MergedApart gone idx len «out_len» s e (glyphs (now (run .entry))) (glyphs (now (out .entry))) (glyphs (now (run .exit))) (glyphs (now (out .exit)))) ⌝ }
+    ensures { λ r. ⌜ WrittenApart idx len «out_len» s e (glyphs (now (run .entry))) (glyphs (now (out .entry))) (glyphs (now (run .exit))) (glyphs (now (out .exit))) ⌝ }
 {
     let p = plan_merge(run, idx, len, s, e);
     let at = tail_start(out, out_len, p.tail, p.leader);
@@ -104,8 +102,7 @@ pub(crate) fn merge_within(
     e: usize,
 )
     requires { ⌜ Mergeable (glyphs (now run)) (glyphs (now run)) len «out_len» s e ⌝ }
-    ensures { λ r. ⌜ (glyphs (now (run .exit)) ≡ mergedRun (mergePlan idx s e (cut len (glyphs (now (run .entry))))) (mergedTail (mergePlan idx s e (cut len (glyphs (now (run .entry))))) «out_len» (glyphs (now (run .entry)))))
-        × ((gone : ℕ) → InputFrom gone idx len s → «out_len» ≤ gone → MergedWithin gone idx len «out_len» s e (glyphs (now (run .entry))) (glyphs (now (run .exit)))) ⌝ }
+    ensures { λ r. ⌜ WrittenWithin idx len «out_len» s e (glyphs (now (run .entry))) (glyphs (now (run .exit))) ⌝ }
 {
     let p = plan_merge(run, idx, len, s, e);
     let at = tail_start(run, out_len, p.tail, p.leader);

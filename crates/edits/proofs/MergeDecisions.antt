@@ -1,0 +1,177 @@
+-- Merges by places, and what 11 and 13 come to, outcome by outcome.
+use mathlib.Core.{Path._≡_, Path.refl, Path.sym, Path.ap, Path._∙_, Path.subst, Bool.Bool, Bool.true, Bool.false, Bool.cond, Bool._||_, Bool.false≢true, List.List}
+use Prim.Native.Nat.{ℕ, _-_, _≤_, _<_}
+use native.Mathlib.Omega.{arith}
+use borrow.Author.Tests.{le-leb, lt-leb, le-ltb, lt-ltb, ltb-false}
+use lib.{Dec.ltb, ListN.length, ListN.drop, Seq.slice}
+use Rattle.records.specs.{InputPlace, Contradiction, WrongPhase, OutOfRange, Done, No, Limits, Counters.capacityOf, Counters.costs, Ranges.clusters, View.glyphs}
+use Rattle.records.proofs.View.{glyphs-same}
+use Rattle.lists.specs.declared.{Buffer.Buffer, Reply.Reply, Verdict.Verdict}
+use Rattle.lists.specs.{Account.Account, Account.readLevel, Account.spoiledPhase, Account.isSpoiled, Results.refused, Results.accepted, Results.refuse_when_else_, State.goneOf, State.accountOf, State.sound, State.Soundness, States.withLimitsOf, Verdicts.Leaves, Verdicts.settled, Verdicts.Sided, Contract.Meets}
+use Rattle.lists.proofs.{Accounts.spoiled-of, Accounts.level-of, Accounts.gone-of, Accounts.sound-held}
+use Rattle.lists.proofs.Decisions.{near-limits, leaves-as, decided-unsound, decided-refused, decided-does, end-acted, end-still}
+use Rattle.edits.specs.{Acts.Acts, Acts.Mergeful, Flags.interior, Flags.sought, Merging.merge, Merging.merged, Merging.mergeInput, Merging.outsideInput, Merging.clustersMerge, Merging.graphemesMerge, Plans.WrittenApart, Plans.WrittenWithin}
+use Rattle.edits.specs.MergeActs.{mergeLimits, liesApart, MergeRoom, Merges, MergesInput}
+use Rattle.edits.proofs.MergeLaws.{merged-apart}
+use Rattle.edits.proofs.MergeCalls.{acts-paid, acts-both, in-acts, from-gone, ready-apart, apart-is, within-is, within-behind, width, flag-is, flag-behind, outside, outside-of, in-mergeful, neither-left}
+
+-- ---- what a merge costs
+module _ (merges : Bool) (n : ℕ) (l : Limits) where
+  pub limits-paid : {r : Limits} → merges ≡ true → 2 ≤ n → r ≡ costs n l → r ≡ mergeLimits merges n l
+  unfolding mergeLimits
+  limits-paid h two e = rw (h, le-leb 2 n two) e
+
+  pub limits-few : n < 2 → l ≡ mergeLimits merges n l
+  unfolding mergeLimits
+  limits-few few = rw (lt-leb 2 n few) (by-merges merges)
+    where
+      by-merges : (x : Bool) → l ≡ cond x l l
+      by-merges true = refl
+      by-merges false = refl
+
+  pub limits-free : merges ≡ false → l ≡ mergeLimits merges n l
+  unfolding mergeLimits
+  limits-free h = rw h
+
+-- ---- the four ways of a merge
+module _ {b : Buffer} {run other : List ℕ} {s e : ℕ} (v : Mergeful b s e run other) (merges : Bool) where
+  abbrev Merged : (run′ other′ : List ℕ) → Type 0
+  Merged run′ other′ = Acts (merge merges (s - goneOf b) (e - goneOf b)) b run other (withLimitsOf (mergeLimits merges (e - s) (b .limits)) b) run′ other′
+
+  free : {run′ : List ℕ} → b .limits ≡ mergeLimits merges (e - s) (b .limits) → length run′ ≡ length run → drop (b .len .0) (glyphs run′) ≡ drop (b .len .0) (glyphs run)
+      → accountOf b run′ other ≡ merge merges (s - goneOf b) (e - goneOf b) (accountOf b run other) → Merged run′ other
+  unfolding withLimitsOf
+  free {run′} el lr dr q = subst (λ (l : Limits). Acts (merge merges (s - goneOf b) (e - goneOf b)) b run other (withLimitsOf l b) run′ other) el (acts-both (v .held) (merge merges (s - goneOf b) (e - goneOf b)) lr refl dr refl q)
+
+  at-none : e - s < 2 → Merged run other
+  unfolding merge
+  at-none few = free (limits-few merges (e - s) (b .limits) few) refl refl (rw (width v, lt-ltb (e - s) 2 few))
+
+  module _ (two : 2 ≤ e - s) where
+    at-over : merges ≡ false → 255 < e - s → Merged run other
+    unfolding merge
+    at-over h far = free (limits-free merges (e - s) (b .limits) h) refl refl (rw (width v, le-ltb (e - s) 2 two, h, lt-ltb 255 (e - s) far))
+
+    at-flag : {run′ : List ℕ} → merges ≡ false → e - s ≤ 255 → length run′ ≡ length run → glyphs run′ ≡ interior (readLevel (b .level)) (sought (readLevel (b .level)) (slice s e (clusters (glyphs run)))) 3 s e (glyphs run) → Merged run′ other
+    unfolding merge
+    at-flag {run′} h near lr eg = free (limits-free merges (e - s) (b .limits) h) lr (flag-behind v 3 run′ two eg) (flag-is v 3 run′ two eg ∙ rw (width v, le-ltb (e - s) 2 two, h, le-ltb 255 (e - s) near))
+
+    way-merge : (a : Account ℕ) → merges ≡ true → merge merges (s - goneOf b) (e - goneOf b) a ≡ merged (s - goneOf b) (e - goneOf b) a
+    unfolding merge
+    way-merge a h = rw (width v, le-ltb (e - s) 2 two, h)
+
+    costly : {run′ other′ : List ℕ} → merges ≡ true → length run′ ≡ length run → length other′ ≡ length other
+        → drop (b .len .0) (glyphs run′) ≡ drop (b .len .0) (glyphs run) → drop (b .«out_len» .0) (glyphs other′) ≡ drop (b .«out_len» .0) (glyphs other)
+        → accountOf (withLimitsOf (costs (e - s) (b .limits)) b) run′ other′ ≡ merged (s - goneOf b) (e - goneOf b) (accountOf b run other) → Merged run′ other′
+    costly h lr lo dr d q = rw (← limits-paid merges (e - s) (b .limits) h two refl) (acts-paid (v .held) (merge merges (s - goneOf b) (e - goneOf b)) (e - s) refl refl lr lo dr d (q ∙ sym (way-merge (accountOf b run other) h)) .0)
+
+    at-apart : {run′ other′ : List ℕ} → merges ≡ true → liesApart b ≡ true → length run′ ≡ length run → length other′ ≡ length other → WrittenApart (b .idx .0) (b .len .0) (b .«out_len» .0) s e (glyphs run) (glyphs other) (glyphs run′) (glyphs other′) → Merged run′ other′
+    at-apart {run′} {other′} h a lr lo w = let m = merged-apart (ready-apart v two) (from-gone v) w in costly h lr lo (m .behind) (m .out-behind) (apart-is v run′ other′ a m)
+
+    at-within : {run′ : List ℕ} → merges ≡ true → liesApart b ≡ false → length run′ ≡ length run → WrittenWithin (b .idx .0) (b .len .0) (b .«out_len» .0) s e (glyphs run) (glyphs run′) → Merged run′ other
+    at-within {run′} h a lr w = costly h lr refl (within-behind v run′ a two (w .is)) refl (within-is v run′ a two (w .is))
+
+-- ---- the act
+module _ {x apart merges : Bool} {level idx len outLen s e : ℕ} {f g : List ℕ} where
+  pub merges-few : e - s < 2 → Sided x (Merges apart merges level idx len outLen s e) f g f g
+  merges-few few = record { first = λ z. nothing f g; second = λ z. nothing g f }
+    where
+      nothing : (run other : List ℕ) → Merges apart merges level idx len outLen s e run other run other
+      nothing run other = record { acts = λ b a v. at-none v merges few; apart-only = λ z. refl }
+
+  pub merges-far : 2 ≤ e - s → merges ≡ false → 255 < e - s → Sided x (Merges apart merges level idx len outLen s e) f g f g
+  merges-far two h far = record { first = λ z. nothing f g; second = λ z. nothing g f }
+    where
+      nothing : (run other : List ℕ) → Merges apart merges level idx len outLen s e run other run other
+      nothing run other = record { acts = λ b a v. at-over v merges two h far; apart-only = λ z. refl }
+
+module _ {apart merges : Bool} {level idx len outLen s e : ℕ} {run other run′ other′ : List ℕ} (two : 2 ≤ e - s) where
+  pub merges-apart : merges ≡ true → apart ≡ true → length run′ ≡ length run → length other′ ≡ length other → WrittenApart idx len outLen s e (glyphs run) (glyphs other) (glyphs run′) (glyphs other′) → Merges apart merges level idx len outLen s e run other run′ other′
+  merges-apart h k lr lo w = record { acts = λ b a v. at-apart v merges two h (a ∙ k) lr lo w; apart-only = λ z. absurd (false≢true (sym z ∙ k)) }
+
+module _ {apart merges : Bool} {level idx len outLen s e : ℕ} {run other run′ : List ℕ} (two : 2 ≤ e - s) where
+  pub merges-within : merges ≡ true → apart ≡ false → length run′ ≡ length run → WrittenWithin idx len outLen s e (glyphs run) (glyphs run′) → Merges apart merges level idx len outLen s e run other run′ other
+  merges-within h k lr w = record { acts = λ b a v. at-within v merges two h (a ∙ k) lr w; apart-only = λ z. refl }
+
+  pub merges-flags : merges ≡ false → e - s ≤ 255 → length run′ ≡ length run → glyphs run′ ≡ interior (readLevel level) (sought (readLevel level) (slice s e (clusters (glyphs run)))) 3 s e (glyphs run) → Merges apart merges level idx len outLen s e run other run′ other
+  merges-flags h near lr eg = record { acts = λ b a v. at-flag v merges two h near lr eg; apart-only = λ z. refl }
+
+-- at the places of a buffer
+pub room-of : {b : Buffer} {s e : ℕ} {run other : List ℕ} → Mergeful b s e run other → MergeRoom (b .len .0) (b .«out_len» .0) s e run other
+room-of {b} {s} {e} {run} {other} v = record { order = v .order; end = v .end; fits = omega (arith, v .held .len-in, v .held .all-in); out-fits = omega (arith, v .held .out-in, v .held .all-in); same = glyphs-same run other (v .held .same) }
+
+module _ (b : Buffer) {apart merges : Bool} {s e : ℕ} {run other run′ other′ : List ℕ} (ea : apart ≡ liesApart b) (w : Sided false (Merges apart merges (b .level) (b .idx .0) (b .len .0) (b .«out_len» .0) s e) run other run′ other′) where
+  pub merges-acts : {l : Limits} {r : Buffer} → Mergeful b s e run other → l ≡ mergeLimits merges (e - s) (b .limits) → r ≡ withLimitsOf l b → Acts (merge merges (s - goneOf b) (e - goneOf b)) b run other r run′ other′
+  merges-acts v el er = rw (er, el) (w .first refl .acts b (sym ea) v)
+
+  pub merges-other : liesApart b ≡ false → other′ ≡ other
+  merges-other h = w .first refl .apart-only (ea ∙ h)
+
+pub own-limits : (b : Buffer) (l : Limits) {r : Buffer} → r ≡ withLimitsOf l b → r ≡ withLimitsOf (r .limits) b
+unfolding withLimitsOf
+own-limits b l er = rw er
+
+-- the verdict on one that goes ahead
+pub leaves-paid : (b : Buffer) (merges : Bool) (n : ℕ) {x : Buffer} {l : Limits} {v : Verdict} → l ≡ mergeLimits merges n (b .limits) → x ≡ withLimitsOf l b → Leaves x true Done v → Leaves (withLimitsOf (mergeLimits merges n (b .limits)) b) true Done v
+leaves-paid b merges n el ex w = leaves-as (ex ∙ ap (λ (y : Limits). withLimitsOf y b) el) w
+
+-- ---- 11 and 13
+module _ (at : ℕ → Bool) (s e : InputPlace) (a : Account ℕ) where
+  input-spoiled : isSpoiled a ≡ true → mergeInput at s e a ≡ refused WrongPhase
+  unfolding mergeInput refuse_when_else_
+  input-spoiled h = rw h
+
+  input-outside : isSpoiled a ≡ false → outsideInput s e a ≡ true → mergeInput at s e a ≡ refused OutOfRange
+  unfolding mergeInput refuse_when_else_
+  input-outside h k = rw (h, k)
+
+  input-merges : isSpoiled a ≡ false → outsideInput s e a ≡ false → mergeInput at s e a ≡ accepted (merge (at (a .state .level)) (s .0 - a .state .gone) (e .0 - a .state .gone) a)
+  unfolding mergeInput refuse_when_else_
+  input-merges h k = rw (h, k)
+
+pub outside-ordered : {b : Buffer} {f g : List ℕ} {x t : Bool} {s e : ℕ} → Soundness b f g x → t ≡ (ltb e s || (ltb (b .len .0) e || ltb s (goneOf b))) → t ≡ false → s ≤ e
+outside-ordered {b} {f} {g} {x} {t} {s} {e} w et h = ltb-false e s (neither-left (ltb e s) _ (sym et ∙ h))
+
+module _ {merges : Bool} {s e : InputPlace} {b : Buffer} {f g : List ℕ} {v : Verdict} where
+  pub merge-unsound : sound b f g ≡ false → Leaves b false (No Contradiction) v → MergesInput merges s e b f g v
+  merge-unsound h w = record { is = λ at em. decided-unsound h w }
+
+  module _ (h : sound b f g ≡ true) where
+    pub merge-spoiled : spoiledPhase (b .phase) ≡ true → Leaves b false (No WrongPhase) v → MergesInput merges s e b f g v
+    merge-spoiled p w = record { is = λ at em. decided-refused h (record { law = λ run other l. input-spoiled at s e _ (spoiled-of b run other ∙ p) }) w }
+
+    module _ (p : spoiledPhase (b .phase) ≡ false) where
+      pub merge-outside : (ltb (e .0) (s .0) || (ltb (b .len .0) (e .0) || ltb (s .0) (goneOf b))) ≡ true → Leaves b false (No OutOfRange) v → MergesInput merges s e b f g v
+      merge-outside k w = record { is = λ at em. decided-refused h (record { law = λ run other l. input-outside at s e _ (spoiled-of b run other ∙ p) (outside-of (l .held) s e p ∙ k) }) w }
+
+      pub merge-goes : (ltb (e .0) (s .0) || (ltb (b .len .0) (e .0) || ltb (s .0) (goneOf b))) ≡ false → Leaves (withLimitsOf (mergeLimits merges (e .0 - s .0) (b .limits)) b) true Done v → MergesInput merges s e b f g v
+      merge-goes k w = record { is = λ at em. decided-does h (record {
+        near = near-limits b _;
+        none = λ q. absurd (false≢true (sym q));
+        law = λ run other run′ other′ l lr lo act. in-acts (act .acts b refl (in-mergeful (l .held) s e p refl k))
+          (input-merges at s e _ (spoiled-of b run other ∙ p) (outside-of (l .held) s e p ∙ k)
+          ∙ (ap (λ (n : ℕ). accepted (merge (at ((accountOf b run other) .state .level)) (s .0 - n) (e .0 - n) (accountOf b run other))) (gone-of b run other)
+          ∙ ap (λ (y : Bool). accepted (merge y (s .0 - goneOf b) (e .0 - goneOf b) (accountOf b run other))) (ap at (level-of b run other) ∙ sym em))) refl;
+      }) (λ t. room-of (in-mergeful (sound-held b f g h) s e p refl k)) w }
+
+-- at the end of the calls
+module _ {merges : Bool} {s e : InputPlace} {b : Buffer} {f g : List ℕ} {v : Verdict} (w : MergesInput merges s e b f g v) where
+  pub merge-room : v .acts ≡ true → MergeRoom (b .len .0) (b .«out_len» .0) (s .0) (e .0) f g
+  merge-room t = w .is (λ level. merges) refl .asked t
+
+  module _ {r : Reply} {f″ g″ : List ℕ} (er : r ≡ settled b v) where
+    pub clusters-still : merges ≡ clustersMerge (readLevel (b .level)) → v .acts ≡ false → f″ ≡ f → g″ ≡ g → Meets (λ capacity a. mergeInput (λ level. clustersMerge level) s e a) b f g r f″ g″
+    clusters-still em t ef eg = end-still er (w .is _ em) t ef eg
+
+    pub graphemes-still : merges ≡ graphemesMerge (readLevel (b .level)) → v .acts ≡ false → f″ ≡ f → g″ ≡ g → Meets (λ capacity a. mergeInput (λ level. graphemesMerge level) s e a) b f g r f″ g″
+    graphemes-still em t ef eg = end-still er (w .is _ em) t ef eg
+
+    module _ {apart : Bool} {f′ g′ : List ℕ} (act : Sided (b .swapped) (Merges apart merges (b .level) (b .idx .0) (b .len .0) (b .«out_len» .0) (s .0) (e .0)) f g f′ g′) (ea : apart ≡ liesApart b) (t : v .acts ≡ true) where
+      acted : (at : ℕ → Bool) → merges ≡ at (readLevel (b .level)) → f″ ≡ f′ → g″ ≡ g′ → length f′ ≡ length f → length g′ ≡ length g → Meets (λ capacity a. mergeInput at s e a) b f g r f″ g″
+      acted at em ef eg lf lg = end-acted er (w .is at em) t ef eg lf lg (subst (λ (x : Bool). Sided (b .swapped) (Merges x merges (b .level) (b .idx .0) (b .len .0) (b .«out_len» .0) (s .0) (e .0)) f g f′ g′) ea act)
+
+      pub clusters-acted : merges ≡ clustersMerge (readLevel (b .level)) → f″ ≡ f′ → g″ ≡ g′ → length f′ ≡ length f → length g′ ≡ length g → Meets (λ capacity a. mergeInput (λ level. clustersMerge level) s e a) b f g r f″ g″
+      clusters-acted em = acted (λ level. clustersMerge level) em
+
+      pub graphemes-acted : merges ≡ graphemesMerge (readLevel (b .level)) → f″ ≡ f′ → g″ ≡ g′ → length f′ ≡ length f → length g′ ≡ length g → Meets (λ capacity a. mergeInput (λ level. graphemesMerge level) s e a) b f g r f″ g″
+      graphemes-acted em = acted (λ level. graphemesMerge level) em

@@ -1,0 +1,66 @@
+// Merges by places: the glyphs of a merge, in whichever slice they lie, and what it costs.
+ghost use mathlib.Core.Path.{_≡_};
+ghost use Rattle.lists.specs.Verdicts.{Sided};
+ghost use Rattle.edits.specs.MergeActs.{mergeLimits, MergeRoom, Merges};
+use super::flags;
+use super::merging;
+use records::Limits;
+
+// What a merge of n glyphs costs: nothing where it does not merge.
+pub(crate) fn merge_limits(l: Limits, merges: bool, n: usize) -> Limits
+    ensures { λ r. ⌜ r ≡ mergeLimits merges n l ⌝ }
+{
+    if merges {
+        if 2 <= n {
+            return records::counters::pay(l, n);
+        }
+    }
+    l
+}
+
+// A merge of the places s to e of the run, or the flags that stand for it, wherever the run lies.
+pub(crate) fn merge_by(
+    first: &mut [u32],
+    second: &mut [u32],
+    swapped: bool,
+    apart: bool,
+    merges: bool,
+    level: u32,
+    idx: usize,
+    len: usize,
+    out_len: usize,
+    s: usize,
+    e: usize,
+)
+    requires { ⌜ MergeRoom len «out_len» s e (now first) (now second) ⌝ }
+    ensures { λ r. ⌜ Sided swapped (Merges apart merges level idx len «out_len» s e) (now (first .entry)) (now (second .entry)) (now (first .exit)) (now (second .exit)) ⌝ }
+{
+    let n = e - s;
+    if n < 2 {
+        return;
+    }
+    if merges {
+        if apart {
+            if swapped {
+                merging::merge_apart(second, first, idx, len, out_len, s, e);
+                return;
+            }
+            merging::merge_apart(first, second, idx, len, out_len, s, e);
+            return;
+        }
+        if swapped {
+            merging::merge_within(second, idx, len, out_len, s, e);
+            return;
+        }
+        merging::merge_within(first, idx, len, out_len, s, e);
+        return;
+    }
+    if 255 < n {
+        return;
+    }
+    if swapped {
+        flags::flag_range(second, level, 3, s, e);
+        return;
+    }
+    flags::flag_range(first, level, 3, s, e);
+}
