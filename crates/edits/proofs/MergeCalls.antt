@@ -130,6 +130,11 @@ module _ {b : Buffer} {run other : List ℕ} (v : Held b run other) where
         held = v;
       }
 
+  pub acts-kept : (h : Account ℕ → Account ℕ) {l : Limits} {run′ : List ℕ} → b .limits ≡ l → length run′ ≡ length run → drop (b .len .0) (glyphs run′) ≡ drop (b .len .0) (glyphs run)
+      → accountOf b run′ other ≡ h (accountOf b run other) → Acts h b run other (withLimitsOf l b) run′ other
+  unfolding withLimitsOf
+  acts-kept h {l} {run′} el lr dr e = subst (λ (k : Limits). Acts h b run other (withLimitsOf k b) run′ other) el (acts-both h lr refl dr refl e)
+
   pub acts-free : (h : Account ℕ → Account ℕ) {run′ : List ℕ} → length run′ ≡ length run → drop (b .len .0) (glyphs run′) ≡ drop (b .len .0) (glyphs run)
       → accountOf b run′ other ≡ h (accountOf b run other) → (Acts h b run other b run′ other) × (b ≡ withLimitsOf (b .limits) b)
   unfolding withLimitsOf

@@ -13,7 +13,7 @@ use Rattle.lists.proofs.Decisions.{near-limits, leaves-as, decided-unsound, dec
 use Rattle.edits.specs.{Acts.Acts, Acts.Mergeful, Flags.interior, Flags.sought, Merging.merge, Merging.merged, Merging.mergeInput, Merging.outsideInput, Merging.clustersMerge, Merging.graphemesMerge, Plans.WrittenApart, Plans.WrittenWithin}
 use Rattle.edits.specs.MergeActs.{mergeLimits, liesApart, MergeRoom, Merges, MergesInput}
 use Rattle.edits.proofs.MergeLaws.{merged-apart}
-use Rattle.edits.proofs.MergeCalls.{acts-paid, acts-both, in-acts, from-gone, ready-apart, apart-is, within-is, within-behind, width, flag-is, flag-behind, outside, outside-of, in-mergeful, neither-left}
+use Rattle.edits.proofs.MergeCalls.{acts-paid, acts-kept, in-acts, from-gone, ready-apart, apart-is, within-is, within-behind, width, flag-is, flag-behind, outside, outside-of, in-mergeful, neither-left}
 
 -- ---- what a merge costs
 module _ (merges : Bool) (n : ℕ) (l : Limits) where
@@ -40,8 +40,7 @@ module _ {b : Buffer} {run other : List ℕ} {s e : ℕ} (v : Mergeful b s e run
 
   free : {run′ : List ℕ} → b .limits ≡ mergeLimits merges (e - s) (b .limits) → length run′ ≡ length run → drop (b .len .0) (glyphs run′) ≡ drop (b .len .0) (glyphs run)
       → accountOf b run′ other ≡ merge merges (s - goneOf b) (e - goneOf b) (accountOf b run other) → Merged run′ other
-  unfolding withLimitsOf
-  free {run′} el lr dr q = subst (λ (l : Limits). Acts (merge merges (s - goneOf b) (e - goneOf b)) b run other (withLimitsOf l b) run′ other) el (acts-both (v .held) (merge merges (s - goneOf b) (e - goneOf b)) lr refl dr refl q)
+  free = acts-kept (v .held) (merge merges (s - goneOf b) (e - goneOf b))
 
   at-none : e - s < 2 → Merged run other
   unfolding merge
@@ -63,7 +62,7 @@ module _ {b : Buffer} {run other : List ℕ} {s e : ℕ} (v : Mergeful b s e run
     costly : {run′ other′ : List ℕ} → merges ≡ true → length run′ ≡ length run → length other′ ≡ length other
         → drop (b .len .0) (glyphs run′) ≡ drop (b .len .0) (glyphs run) → drop (b .«out_len» .0) (glyphs other′) ≡ drop (b .«out_len» .0) (glyphs other)
         → accountOf (withLimitsOf (costs (e - s) (b .limits)) b) run′ other′ ≡ merged (s - goneOf b) (e - goneOf b) (accountOf b run other) → Merged run′ other′
-    costly h lr lo dr d q = rw (← limits-paid merges (e - s) (b .limits) h two refl) (acts-paid (v .held) (merge merges (s - goneOf b) (e - goneOf b)) (e - s) refl refl lr lo dr d (q ∙ sym (way-merge (accountOf b run other) h)) .0)
+    costly h lr lo dr d q = acts-paid (v .held) (merge merges (s - goneOf b) (e - goneOf b)) (e - s) (sym (limits-paid merges (e - s) (b .limits) h two refl)) refl lr lo dr d (q ∙ sym (way-merge (accountOf b run other) h)) .0
 
     at-apart : {run′ other′ : List ℕ} → merges ≡ true → liesApart b ≡ true → length run′ ≡ length run → length other′ ≡ length other → WrittenApart (b .idx .0) (b .len .0) (b .«out_len» .0) s e (glyphs run) (glyphs other) (glyphs run′) (glyphs other′) → Merged run′ other′
     at-apart {run′} {other′} h a lr lo w = let m = merged-apart (ready-apart v two) (from-gone v) w in costly h lr lo (m .behind) (m .out-behind) (apart-is v run′ other′ a m)

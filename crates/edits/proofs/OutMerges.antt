@@ -13,7 +13,7 @@ use Rattle.lists.proofs.Runs.{heads-le}
 use Rattle.edits.specs.declared.{OutMerge.OutMerge}
 use Rattle.edits.specs.Merging.{outStart, outEnd, outHead, mergedOut}
 use Rattle.edits.specs.Holding.{holds, paid, cut}
-use Rattle.edits.specs.Plans.{outPlan, headEnd, mergedOutput, mergedHead, OutMergeable, MergedOutApart, MergedOutWithin}
+use Rattle.edits.specs.Plans.{outPlan, headEnd, mergedOutput, mergedHead, OutMergeable, OutWritable, WrittenOutApart, WrittenOutWithin, MergedOutApart, MergedOutWithin}
 use Rattle.edits.proofs.MergePlans.{first-slice, last-slice}
 use Rattle.edits.proofs.Holding.{slice-take, edit-take, edit-take-before, edit-drop-behind}
 use Rattle.edits.proofs.Bridge.{input-is, input-clusters, done-is, done-clusters, holds-limiting, input-edit, input-kept}
@@ -64,19 +64,17 @@ module _ {run out : List (Glyph ℕ)} {idx len outLen s e : ℕ} (v : OutMergeab
       (el ∙ rw (at-is, ep, cs-is, in-is, ds-is))
       (ed ∙ rw (ep, ds-is, d-is))
 
-  -- the head of the input ends in the input
-  pub head-order : (at : ℕ) → at ≡ headEnd (p .head) (p .closer) idx (slice idx len (clusters run)) → (idx ≤ at) × (at ≤ len)
-  unfolding headEnd
-  head-order at ea =
-      let cs : List ℕ = clusters run in
-      let n : length (slice idx len cs) ≡ len - idx = length-slice idx len cs (rw (length-clusters run) (v .fits)) in
-      let o : idx ≤ len = v .inside in
-      let h : heads (is (p .closer)) (slice idx len cs) ≤ len - idx = omega (arith, heads-le (is (p .closer)) (slice idx len cs)) in
-      (omega arith, rw ea (pick (p .head) (heads (is (p .closer)) (slice idx len cs)) h o))
-    where
-      pick : (b : Bool) (t : ℕ) → t ≤ len - idx → idx ≤ len → idx + cond b t 0 ≤ len
-      pick true t h o = omega arith
-      pick false t h o = omega arith
+-- the head of the input ends in the input
+head-order : (run : List (Glyph ℕ)) {idx len at : ℕ} (b : Bool) (c : ℕ) → idx ≤ len → len ≤ length run → at ≡ headEnd b c idx (slice idx len (clusters run)) → (idx ≤ at) × (at ≤ len)
+unfolding headEnd
+head-order run {idx} {len} {at} b c o f ea =
+    let cs : List ℕ = clusters run in
+    let n : length (slice idx len cs) ≡ len - idx = length-slice idx len cs (rw (length-clusters run) f) in
+    (omega arith, rw ea (pick b (heads (is c) (slice idx len cs)) (omega (arith, heads-le (is c) (slice idx len cs)))))
+  where
+    pick : (b : Bool) (t : ℕ) → t ≤ len - idx → idx + cond b t 0 ≤ len
+    pick true t h = omega arith
+    pick false t h = omega arith
 
 zero-of : (n : ℕ) → n - n ≡ 0
 zero-of n = omega arith
@@ -88,7 +86,7 @@ module _ {run out : List (Glyph ℕ)} {idx len outLen s e : ℕ} (v : OutMergeab
   planned-out-apart {run′} {out′} p ep at ea er eo =
       let h : Info → Info = setCluster (p .lowest) 0 in
       let o = out-order v p ep in
-      let q = head-order v p ep at ea in
+      let q = head-order run (p .head) (p .closer) (v .inside) (v .fits) ea in
       record {
         account = out-holds v p ep run′ out′ at ea
             (rw er (input-edit h idx len idx at run (le-refl idx) (q .0) (q .1) ∙ rw (zero-of idx)))
@@ -99,10 +97,9 @@ module _ {run out : List (Glyph ℕ)} {idx len outLen s e : ℕ} (v : OutMergeab
       }
 
   -- THE LAW of a merge in an output that is held apart: of any two lists
-  pub merged-out-apart : {run′ out′ : List (Glyph ℕ)} → run′ ≡ mergedHead (outPlan s e (cut outLen out)) idx len run → out′ ≡ mergedOutput (outPlan s e (cut outLen out)) out
-      → MergedOutApart idx len outLen s e run out run′ out′
+  pub merged-out-apart : {run′ out′ : List (Glyph ℕ)} {p : OutMerge} → p ≡ outPlan s e (cut outLen out) → WrittenOutApart p idx len run out run′ out′ → MergedOutApart idx len outLen s e run out run′ out′
   unfolding mergedHead mergedOutput
-  merged-out-apart er eo = planned-out-apart _ refl _ refl er eo
+  merged-out-apart ep w = planned-out-apart _ ep _ refl (w .run-is) (w .out-is)
 
 module _ {run : List (Glyph ℕ)} {idx len outLen s e : ℕ} (v : OutMergeable run run idx len outLen s e) (low : outLen ≤ idx) where
   planned-out-within : {mid run′ : List (Glyph ℕ)} (p : OutMerge) → p ≡ outPlan s e (cut outLen run)
@@ -111,7 +108,7 @@ module _ {run : List (Glyph ℕ)} {idx len outLen s e : ℕ} (v : OutMergeable r
   planned-out-within {mid} {run′} p ep at ea em er =
       let h : Info → Info = setCluster (p .lowest) 0 in
       let o = out-order v p ep in
-      let q = head-order v p ep at ea in
+      let q = head-order run (p .head) (p .closer) (v .inside) (v .fits) ea in
       let inside : idx ≤ len = v .inside in
       let until : p .to ≤ outLen = o .1 in
       record {
@@ -124,31 +121,31 @@ module _ {run : List (Glyph ℕ)} {idx len outLen s e : ℕ} (v : OutMergeable r
       }
 
   -- THE LAW of a merge in an output that is held in the run: of any list
-  pub merged-out-within : {run′ : List (Glyph ℕ)} → run′ ≡ mergedOutput (outPlan s e (cut outLen run)) (mergedHead (outPlan s e (cut outLen run)) idx len run) → MergedOutWithin idx len outLen s e run run′
+  pub merged-out-within : {run′ : List (Glyph ℕ)} {p : OutMerge} → p ≡ outPlan s e (cut outLen run) → WrittenOutWithin p idx len run run′ → MergedOutWithin idx len outLen s e run run′
   unfolding mergedHead mergedOutput
-  merged-out-within er = planned-out-within _ refl _ refl refl er
+  merged-out-within ep w = planned-out-within _ ep _ refl refl (w .is)
 
 -- ---- what the functions write
-module _ {p P : OutMerge} (ep : p ≡ P) where
-  pub output-written : (l : List (Glyph ℕ)) {l′ : List (Glyph ℕ)} → l′ ≡ edit (p .from) (p .to) (setCluster (p .lowest) 0) l → l′ ≡ mergedOutput P l
-  unfolding mergedOutput
-  output-written l er = rw (← ep) er
+module _ {run : List (Glyph ℕ)} {idx len at : ℕ} {p : OutMerge} (ea : at ≡ headEnd (p .head) (p .closer) idx (slice idx len (clusters run))) where
+  pub written-out-apart : {out run′ out′ : List (Glyph ℕ)} → run′ ≡ edit idx at (setCluster (p .lowest) 0) run → out′ ≡ edit (p .from) (p .to) (setCluster (p .lowest) 0) out → WrittenOutApart p idx len run out run′ out′
+  unfolding mergedHead mergedOutput
+  written-out-apart er eo = record { run-is = rw (← ea) er; out-is = eo }
 
-  pub head-written : (run : List (Glyph ℕ)) (idx len : ℕ) {run′ : List (Glyph ℕ)} {at : ℕ} → at ≡ headEnd (p .head) (p .closer) idx (slice idx len (clusters run)) → run′ ≡ edit idx at (setCluster (p .lowest) 0) run
-      → run′ ≡ mergedHead P idx len run
-  unfolding mergedHead
-  head-written run idx len ea er = rw (← ep, ← ea) er
+  pub written-out-within : {mid run′ : List (Glyph ℕ)} → mid ≡ edit idx at (setCluster (p .lowest) 0) run → run′ ≡ edit (p .from) (p .to) (setCluster (p .lowest) 0) mid → WrittenOutWithin p idx len run run′
+  unfolding mergedHead mergedOutput
+  written-out-within em er = record { is = rw (← ea, ← em) er }
 
-module _ {run out : List (Glyph ℕ)} {idx len outLen s e : ℕ} (v : OutMergeable run out idx len outLen s e) where
-  pub out-apart-written : {run′ out′ : List (Glyph ℕ)} (p : OutMerge) → p ≡ outPlan s e (cut outLen out)
-      → (at : ℕ) → at ≡ headEnd (p .head) (p .closer) idx (slice idx len (clusters run))
-      → run′ ≡ edit idx at (setCluster (p .lowest) 0) run → out′ ≡ edit (p .from) (p .to) (setCluster (p .lowest) 0) out
-      → (run′ ≡ mergedHead (outPlan s e (cut outLen out)) idx len run) × (out′ ≡ mergedOutput (outPlan s e (cut outLen out)) out) × MergedOutApart idx len outLen s e run out run′ out′
-  out-apart-written p ep at ea er eo = (head-written ep run idx len ea er, output-written ep out eo, planned-out-apart v p ep at ea er eo)
+-- where they write
+module _ {p : OutMerge} {idx len : ℕ} {run out : List (Glyph ℕ)} (v : OutWritable p idx len run out) where
+  module _ {at : ℕ} (ea : at ≡ headEnd (p .head) (p .closer) idx (slice idx len (clusters run))) where
+    pub head-start : idx ≤ at
+    head-start = head-order run (p .head) (p .closer) (v .inside) (v .fits) ea .0
 
-module _ {run : List (Glyph ℕ)} {idx len outLen s e : ℕ} (v : OutMergeable run run idx len outLen s e) (low : outLen ≤ idx) where
-  pub out-within-written : {mid run′ : List (Glyph ℕ)} (p : OutMerge) → p ≡ outPlan s e (cut outLen run)
-      → (at : ℕ) → at ≡ headEnd (p .head) (p .closer) idx (slice idx len (clusters run))
-      → mid ≡ edit idx at (setCluster (p .lowest) 0) run → run′ ≡ edit (p .from) (p .to) (setCluster (p .lowest) 0) mid
-      → (run′ ≡ mergedOutput (outPlan s e (cut outLen run)) (mergedHead (outPlan s e (cut outLen run)) idx len run)) × MergedOutWithin idx len outLen s e run run′
-  out-within-written p ep at ea em er = (output-written ep _ er ∙ ap (mergedOutput (outPlan s e (cut outLen run))) (head-written ep run idx len ea em), planned-out-within v low p ep at ea em er)
+    pub head-stop : at ≤ length run
+    head-stop = omega (arith, v .fits, head-order run (p .head) (p .closer) (v .inside) (v .fits) ea .1)
+
+  pub out-room : (out′ : List (Glyph ℕ)) → length out′ ≡ length out → p .to ≤ length out′
+  out-room out′ same = omega (arith, v .end)
+
+pub out-writable : {run out : List (Glyph ℕ)} {idx len outLen s e : ℕ} {p : OutMerge} → OutMergeable run out idx len outLen s e → p ≡ outPlan s e (cut outLen out) → OutWritable p idx len run out
+out-writable {p = p} v ep = let o = out-order v p ep in record { order = o .0; end = omega (arith, o .1, v .out-fits); inside = v .inside; fits = v .fits }

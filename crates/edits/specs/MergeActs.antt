@@ -2,10 +2,10 @@
 use mathlib.Core.{Path._≡_, Bool.Bool, Bool.false, Bool.cond, Bool._&&_, List.List}
 use Prim.Native.Nat.{ℕ, _-_, _≤_}
 use lib.{Dec.leb, ListN.length}
-use Rattle.records.specs.{InputPlace, Limits, Counters.costs, View.glyphs}
+use Rattle.records.specs.{DonePlace, InputPlace, Limits, Counters.costs, View.glyphs}
 use Rattle.lists.specs.declared.{Buffer.Buffer, Verdict.Verdict}
 use Rattle.lists.specs.{Account.outputPhase, Account.readLevel, State.goneOf, States.withLimitsOf, Verdicts.settled, Verdicts.Decided}
-use Rattle.edits.specs.{Acts.Acts, Acts.Mergeful, Merging.merge, Merging.mergeInput}
+use Rattle.edits.specs.{Acts.Acts, Acts.Mergeful, Acts.OutMergeful, Merging.merge, Merging.mergeInput, Merging.mergeOut, Merging.mergeDone}
 
 -- what a merge of n glyphs leaves of the limits
 unfoldable pub mergeLimits : Bool → ℕ → Limits → Limits
@@ -36,3 +36,21 @@ pub record Merges (apart merges : Bool) (level idx len outLen s e : ℕ) (run ot
 -- 11 and 13, of a call that merges at the levels `at`
 pub record MergesInput (merges : Bool) (s e : InputPlace) (b : Buffer) (f g : List ℕ) (v : Verdict) : Type 0 where
   pub is : (at : ℕ → Bool) → merges ≡ at (readLevel (b .level)) → Decided (λ capacity a. mergeInput at s e a) b f g (settled b v) (v .acts) (MergeRoom (b .len .0) (b .«out_len» .0) (s .0) (e .0) f g) (Merges (liesApart b) merges (b .level) (b .idx .0) (b .len .0) (b .«out_len» .0) (s .0) (e .0))
+
+-- s..e is a range of the output, in slices that are large enough
+pub record OutMergeRoom (idx len outLen s e : ℕ) (run other : List ℕ) : Type 0 where
+  pub order : s ≤ e
+  pub end : e ≤ outLen
+  pub out-fits : outLen ≤ length (glyphs run)
+  pub inside : idx ≤ len
+  pub fits : len ≤ length (glyphs run)
+  pub same : length (glyphs run) ≡ length (glyphs other)
+
+-- s..e of the output is merged, on the account of every buffer at these places
+pub record OutMerges (separate merges : Bool) (idx len outLen s e : ℕ) (run other run′ other′ : List ℕ) : Type 0 where
+  pub acts : (b : Buffer) → b .«have_separate_output» ≡ separate → OutMergeful (placed idx len outLen (b .level) b) s e run other
+      → Acts (mergeOut merges s e) (placed idx len outLen (b .level) b) run other (withLimitsOf (mergeLimits merges (e - s) (b .limits)) (placed idx len outLen (b .level) b)) run′ other′
+
+-- 12 and 14
+pub record MergesDone (merges : Bool) (s e : DonePlace) (b : Buffer) (f g : List ℕ) (v : Verdict) : Type 0 where
+  pub is : (at : ℕ → Bool) → merges ≡ at (readLevel (b .level)) → Decided (λ capacity a. mergeDone at s e a) b f g (settled b v) (v .acts) (OutMergeRoom (b .idx .0) (b .len .0) (b .«out_len» .0) (s .0) (e .0) f g) (OutMerges (b .«have_separate_output») merges (b .idx .0) (b .len .0) (b .«out_len» .0) (s .0) (e .0))

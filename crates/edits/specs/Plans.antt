@@ -95,6 +95,20 @@ pub record OutMergeable (run out : List (Glyph ℕ)) (idx len outLen s e : ℕ) 
   pub inside : idx ≤ len
   pub fits : len ≤ length run
 
+-- a plan that can be written, and what is written by it: with the output apart, and in the run
+pub record OutWritable (p : OutMerge) (idx len : ℕ) (run out : List (Glyph ℕ)) : Type 0 where
+  pub order : p .from ≤ p .to
+  pub end : p .to ≤ length out
+  pub inside : idx ≤ len
+  pub fits : len ≤ length run
+
+pub record WrittenOutApart (p : OutMerge) (idx len : ℕ) (run out run′ out′ : List (Glyph ℕ)) : Type 0 where
+  pub run-is : run′ ≡ mergedHead p idx len run
+  pub out-is : out′ ≡ mergedOutput p out
+
+pub record WrittenOutWithin (p : OutMerge) (idx len : ℕ) (run run′ : List (Glyph ℕ)) : Type 0 where
+  pub is : run′ ≡ mergedOutput p (mergedHead p idx len run)
+
 pub record MergedOutApart (idx len outLen s e : ℕ) (run out run′ out′ : List (Glyph ℕ)) : Type 0 where
   pub account : (k : State) → holds run′ out′ idx idx len outLen (paid (e - s) k) ≡ mergedOut s e (holds run out idx idx len outLen k)
   pub before : take idx run′ ≡ take idx run

@@ -1,7 +1,7 @@
 // Merges by places: the glyphs of a merge, in whichever slice they lie, and what it costs.
 ghost use mathlib.Core.Path.{_≡_};
 ghost use Rattle.lists.specs.Verdicts.{Sided};
-ghost use Rattle.edits.specs.MergeActs.{mergeLimits, MergeRoom, Merges};
+ghost use Rattle.edits.specs.MergeActs.{mergeLimits, MergeRoom, Merges, OutMergeRoom, OutMerges};
 use super::flags;
 use super::merging;
 use records::Limits;
@@ -63,4 +63,44 @@ pub(crate) fn merge_by(
         return;
     }
     flags::flag_range(first, level, 3, s, e);
+}
+
+// A merge of the places s to e of the output, which lies apart from the run where it is `separate`.
+pub(crate) fn merge_out_by(
+    first: &mut [u32],
+    second: &mut [u32],
+    swapped: bool,
+    separate: bool,
+    merges: bool,
+    idx: usize,
+    len: usize,
+    out_len: usize,
+    s: usize,
+    e: usize,
+)
+    requires { ⌜ OutMergeRoom idx len «out_len» s e (now first) (now second) ⌝ }
+    ensures { λ r. ⌜ Sided swapped (OutMerges separate merges idx len «out_len» s e) (now (first .entry)) (now (second .entry)) (now (first .exit)) (now (second .exit)) ⌝ }
+{
+    if e - s < 2 {
+        return;
+    }
+    if merges {
+        if separate {
+            if swapped {
+                let p = merging::plan_out(first, out_len, s, e);
+                merging::merge_out_apart(second, first, idx, len, p);
+                return;
+            }
+            let p = merging::plan_out(second, out_len, s, e);
+            merging::merge_out_apart(first, second, idx, len, p);
+            return;
+        }
+        if swapped {
+            let p = merging::plan_out(second, out_len, s, e);
+            merging::merge_out_within(second, idx, len, p);
+            return;
+        }
+        let p = merging::plan_out(first, out_len, s, e);
+        merging::merge_out_within(first, idx, len, p);
+    }
 }

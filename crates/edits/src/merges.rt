@@ -1,18 +1,17 @@
 // Merging: calls 11 to 14.
 ghost use mathlib.Core.Path.{_≡_};
 ghost use mathlib.Core.Bool.{true, false, _&&_, _||_};
-ghost use Prim.Native.Nat.{_-_, _≤_};
+ghost use Prim.Native.Nat.{_-_};
 ghost use lib.Dec.{ltb};
 ghost use Rattle.lists.specs.Account.{outputPhase, readLevel};
-ghost use Rattle.lists.specs.State.{Held, goneOf};
+ghost use Rattle.lists.specs.State.{goneOf};
 ghost use Rattle.lists.specs.States.{withLimitsOf};
-ghost use Rattle.lists.specs.Contract.{Meets, MeetsIn};
+ghost use Rattle.lists.specs.Contract.{Meets};
 ghost use Rattle.lists.specs.Verdicts.{Leaves};
-ghost use Rattle.edits.specs.Merging.{merge, mergeInput, mergeOut, mergedOut, mergeDone, clustersMerge, graphemesMerge};
-ghost use Rattle.edits.specs.Acts.{Acts, Mergeful, OutMergeful};
-ghost use Rattle.edits.specs.MergeActs.{mergeLimits, liesApart, MergesInput};
+ghost use Rattle.edits.specs.Merging.{merge, mergeInput, mergeDone, clustersMerge, graphemesMerge};
+ghost use Rattle.edits.specs.Acts.{Acts, Mergeful};
+ghost use Rattle.edits.specs.MergeActs.{mergeLimits, liesApart, MergesInput, MergesDone};
 use super::merge_acts;
-use super::merging;
 use lists::Buffer;
 use lists::Reply;
 use lists::Verdict;
@@ -215,66 +214,31 @@ pub fn merge_grapheme_clusters(
     verdicts::settled(b, v)
 }
 
-// A merge of at least two glyphs of the output, with what it costs.
-fn merge_out_lists(b: Buffer, run: &mut [u32], other: &mut [u32], s: usize, e: usize) -> Buffer
-    requires { ⌜ (OutMergeful b s e (now run) (now other)) × (2 ≤ e - s) ⌝ }
-    ensures { λ r. ⌜ (Acts (mergedOut s e) b (now (run .entry)) (now (other .entry)) r (now (run .exit)) (now (other .exit))) × (r ≡ withLimitsOf (r .limits) b) ⌝ }
-{
-    let idx = b.idx.0;
-    let len = b.len.0;
-    let out_len = b.out_len.0;
-    let paid = state::with_limits(b, records::counters::pay(b.limits, e - s));
-    if b.have_separate_output {
-        merging::merge_out_apart(run, other, idx, len, out_len, s, e);
-        return paid;
-    }
-    merging::merge_out_within(run, idx, len, out_len, s, e);
-    paid
-}
-
-// A merge of the places s to e of the output.
-pub(crate) fn merge_out_at(
+// 12 and 14
+fn merge_out_verdict(
     b: Buffer,
-    run: &mut [u32],
-    other: &mut [u32],
-    merges: bool,
-    s: usize,
-    e: usize,
-) -> Buffer
-    requires { ⌜ OutMergeful b s e (now run) (now other) ⌝ }
-    ensures { λ r. ⌜ (Acts (mergeOut merges s e) b (now (run .entry)) (now (other .entry)) r (now (run .exit)) (now (other .exit))) × (r ≡ withLimitsOf (r .limits) b) ⌝ }
-{
-    if e - s < 2 {
-        return b;
-    }
-    if merges {
-        return merge_out_lists(b, run, other, s, e);
-    }
-    b
-}
-
-fn merge_out_in(
-    b: Buffer,
-    run: &mut [u32],
-    other: &mut [u32],
+    first: &[u32],
+    second: &[u32],
     merges: bool,
     start: DonePlace,
     end: DonePlace,
-) -> Reply
-    requires { ⌜ Held b (now run) (now other) ⌝ }
-    ensures { λ r. ⌜ MeetsIn (λ capacity a. mergeDone (λ level. merges) start end a) b (now (run .entry)) (now (other .entry)) r (now (run .exit)) (now (other .exit)) ⌝ }
+) -> Verdict
+    ensures { λ v. ⌜ MergesDone merges start end b (now (first .entry)) (now (second .entry)) v ⌝ }
 {
-    let phase = b.phase;
-    if state::have_output(phase) {
-        if end.0 < start.0 {
-            return state::refusal(b, Refusal::OutOfRange);
+    if state::is_sound(b, first, second) {
+        let phase = b.phase;
+        if state::have_output(phase) {
+            if end.0 < start.0 {
+                return verdicts::refused(b, Refusal::OutOfRange);
+            }
+            if b.out_len.0 < end.0 {
+                return verdicts::refused(b, Refusal::OutOfRange);
+            }
+            return goes_ahead(b, merges, end.0 - start.0);
         }
-        if b.out_len.0 < end.0 {
-            return state::refusal(b, Refusal::OutOfRange);
-        }
-        return state::accepted(merge_out_at(b, run, other, merges, start.0, end.0));
+        return verdicts::refused(b, Refusal::WrongPhase);
     }
-    state::refusal(b, Refusal::WrongPhase)
+    verdicts::refused(b, Refusal::Contradiction)
 }
 
 // 12
@@ -287,14 +251,23 @@ pub fn merge_out_clusters(
 ) -> Reply
     ensures { λ r. ⌜ Meets (λ capacity a. mergeDone (λ level. clustersMerge level) start end a) b (now (first .entry)) (now (second .entry)) r (now (first .exit)) (now (second .exit)) ⌝ }
 {
-    if state::is_sound(b, first, second) {
-        let merges = clusters_merge(b.level);
-        if b.swapped {
-            return merge_out_in(b, second, first, merges, start, end);
-        }
-        return merge_out_in(b, first, second, merges, start, end);
+    let merges = clusters_merge(b.level);
+    let v = merge_out_verdict(b, first, second, merges, start, end);
+    if v.acts {
+        merge_acts::merge_out_by(
+            first,
+            second,
+            b.swapped,
+            b.have_separate_output,
+            merges,
+            b.idx.0,
+            b.len.0,
+            b.out_len.0,
+            start.0,
+            end.0,
+        );
     }
-    state::refusal(b, Refusal::Contradiction)
+    verdicts::settled(b, v)
 }
 
 // 14
@@ -307,12 +280,21 @@ pub fn merge_out_grapheme_clusters(
 ) -> Reply
     ensures { λ r. ⌜ Meets (λ capacity a. mergeDone (λ level. graphemesMerge level) start end a) b (now (first .entry)) (now (second .entry)) r (now (first .exit)) (now (second .exit)) ⌝ }
 {
-    if state::is_sound(b, first, second) {
-        let merges = graphemes_merge(b.level);
-        if b.swapped {
-            return merge_out_in(b, second, first, merges, start, end);
-        }
-        return merge_out_in(b, first, second, merges, start, end);
+    let merges = graphemes_merge(b.level);
+    let v = merge_out_verdict(b, first, second, merges, start, end);
+    if v.acts {
+        merge_acts::merge_out_by(
+            first,
+            second,
+            b.swapped,
+            b.have_separate_output,
+            merges,
+            b.idx.0,
+            b.len.0,
+            b.out_len.0,
+            start.0,
+            end.0,
+        );
     }
-    state::refusal(b, Refusal::Contradiction)
+    verdicts::settled(b, v)
 }

@@ -8,7 +8,7 @@ ghost use Rattle.records.specs.Ranges.{clusters};
 ghost use Rattle.records.specs.View.{glyphs};
 ghost use Rattle.edits.specs.Merging.{mergeStart, mergeEnd};
 ghost use Rattle.edits.specs.Holding.{cut};
-ghost use Rattle.edits.specs.Plans.{MergeRange, mergePlan, tailStart, Mergeable, WrittenApart, WrittenWithin, outPlan, headEnd, mergedOutput, mergedHead, OutMergeable, MergedOutApart, MergedOutWithin};
+ghost use Rattle.edits.specs.Plans.{MergeRange, mergePlan, tailStart, Mergeable, WrittenApart, WrittenWithin, outPlan, headEnd, OutWritable, WrittenOutApart, WrittenOutWithin};
 use super::Merge;
 use super::OutMerge;
 
@@ -112,7 +112,7 @@ pub(crate) fn merge_within(
 
 // ---- a merge in the output
 
-fn plan_out(out: &[u32], out_len: usize, s: usize, e: usize) -> OutMerge
+pub(crate) fn plan_out(out: &[u32], out_len: usize, s: usize, e: usize) -> OutMerge
     requires { ⌜ (s < e) × (e ≤ «out_len») × («out_len» ≤ length (glyphs (now out))) ⌝ }
     ensures { λ r. ⌜ r ≡ outPlan s e (cut «out_len» (glyphs (now (out .entry)))) ⌝ }
 {
@@ -142,41 +142,27 @@ fn head_end(run: &[u32], idx: usize, len: usize, head: bool, closer: u32) -> usi
     }
 }
 
-// A merge in the output, which is held apart.
+// A merge in the output by its plan, where the output is held apart.
 pub(crate) fn merge_out_apart(
     run: &mut [u32],
     out: &mut [u32],
     idx: usize,
     len: usize,
-    out_len: usize,
-    s: usize,
-    e: usize,
+    p: OutMerge,
 )
-    requires { ⌜ OutMergeable (glyphs (now run)) (glyphs (now out)) idx len «out_len» s e ⌝ }
-    ensures { λ r. ⌜ (glyphs (now (run .exit)) ≡ mergedHead (outPlan s e (cut «out_len» (glyphs (now (out .entry))))) idx len (glyphs (now (run .entry))))
-        × (glyphs (now (out .exit)) ≡ mergedOutput (outPlan s e (cut «out_len» (glyphs (now (out .entry))))) (glyphs (now (out .entry))))
-        × MergedOutApart idx len «out_len» s e (glyphs (now (run .entry))) (glyphs (now (out .entry))) (glyphs (now (run .exit))) (glyphs (now (out .exit))) ⌝ }
+    requires { ⌜ OutWritable p idx len (glyphs (now run)) (glyphs (now out)) ⌝ }
+    ensures { λ r. ⌜ WrittenOutApart p idx len (glyphs (now (run .entry))) (glyphs (now (out .entry))) (glyphs (now (run .exit))) (glyphs (now (out .exit))) ⌝ }
 {
-    let p = plan_out(out, out_len, s, e);
     let at = head_end(run, idx, len, p.head, p.closer);
     lists::ranges::set_clusters(run, idx, at, p.lowest, 0);
     lists::ranges::set_clusters(out, p.from, p.to, p.lowest, 0);
 }
 
-// A merge in the output, which is held in the run itself.
-pub(crate) fn merge_out_within(
-    run: &mut [u32],
-    idx: usize,
-    len: usize,
-    out_len: usize,
-    s: usize,
-    e: usize,
-)
-    requires { ⌜ OutMergeable (glyphs (now run)) (glyphs (now run)) idx len «out_len» s e × («out_len» ≤ idx) ⌝ }
-    ensures { λ r. ⌜ (glyphs (now (run .exit)) ≡ mergedOutput (outPlan s e (cut «out_len» (glyphs (now (run .entry))))) (mergedHead (outPlan s e (cut «out_len» (glyphs (now (run .entry))))) idx len (glyphs (now (run .entry)))))
-        × MergedOutWithin idx len «out_len» s e (glyphs (now (run .entry))) (glyphs (now (run .exit))) ⌝ }
+// The same where it is held in the run itself.
+pub(crate) fn merge_out_within(run: &mut [u32], idx: usize, len: usize, p: OutMerge)
+    requires { ⌜ OutWritable p idx len (glyphs (now run)) (glyphs (now run)) ⌝ }
+    ensures { λ r. ⌜ WrittenOutWithin p idx len (glyphs (now (run .entry))) (glyphs (now (run .exit))) ⌝ }
 {
-    let p = plan_out(run, out_len, s, e);
     let at = head_end(run, idx, len, p.head, p.closer);
     lists::ranges::set_clusters(run, idx, at, p.lowest, 0);
     lists::ranges::set_clusters(run, p.from, p.to, p.lowest, 0);
