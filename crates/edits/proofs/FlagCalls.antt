@@ -4,12 +4,13 @@ use Prim.Native.Nat.{ℕ, _-_, _/_, _%_, _≤_, _<_}
 use native.Mathlib.Omega.{arith}
 use borrow.Author.Tests.{le-ltb, lt-ltb, ltb-false, eq-eqb, ne-eqb}
 use lib.{Dec.ltb, ListN.length, ListN.drop, Seq.slice}
-use Rattle.records.specs.{Phase, Plain, Output, Positions, Spoiled, InputPlace, WrongPhase, OutOfRange, Done, No, Glyphs.flagged, Ranges.clusters, Ranges.edit, View.glyphs, View.placements}
-use Rattle.lists.specs.declared.{Buffer.Buffer, Reply.Reply}
-use Rattle.lists.specs.{Account.readLevel, Account.Account, Account.State, Account.outputPhase, Account.spoiledPhase, Account.isSpoiled, Account.len, Account.withLimits, Contract.MeetsIn, Results.Result, Results.refused, Results.accepted, Results.refuse_when_else_, State.shown, State.goneOf, State.stateOf, State.accountOf, State.Held, States.reply, States.withLimitsOf}
-use Rattle.lists.proofs.{Accounts.spoiled-of, Accounts.len-of, Calls.in-refused, Calls.in-accepted, Calls.in-call, Accounts.gone-of}
+use Rattle.records.specs.{Phase, Plain, Output, Positions, Spoiled, InputPlace, Contradiction, WrongPhase, OutOfRange, Done, No, Glyphs.flagged, Ranges.clusters, Ranges.edit, View.glyphs, View.placements}
+use Rattle.records.proofs.View.{glyphs-same}
+use Rattle.lists.specs.declared.{Buffer.Buffer, Verdict.Verdict}
+use Rattle.lists.specs.{Account.readLevel, Account.Account, Account.State, Account.outputPhase, Account.spoiledPhase, Account.isSpoiled, Account.len, Account.withLimits, Results.refused, Results.accepted, Results.refuse_when_else_, State.shown, State.goneOf, State.stateOf, State.accountOf, State.sound, State.Held, States.withLimitsOf, Verdicts.Leaves, Verdicts.settled, Verdicts.Sided, Verdicts.Decided}
+use Rattle.lists.proofs.{Accounts.spoiled-of, Accounts.len-of, Accounts.gone-of, Accounts.wants-of, Accounts.sound-held, Decisions.near-same, Decisions.accepts, Decisions.decided-unsound, Decisions.decided-refused, Decisions.decided-accepted, Decisions.decided-does}
 use Rattle.edits.specs.declared.{InputBound.InputBound}
-use Rattle.edits.specs.{Acts.Acts, Acts.Mergeful, Bounds.inputBound, Bounds.inputNumber, Flags.interior, Flags.sought, Flags.flagInterior, Flags.flagAll, Flags.number, Flags.tooFar, Flags.startOf, Flags.endOf, Flags.plainForm, Flags.wantsConcat, Flags.wantsTatweel, Holding.holds, Marks.flaggedRun, Plans.InputRange, Plans.InputFrom}
+use Rattle.edits.specs.{Acts.Acts, Acts.Mergeful, Bounds.inputBound, Bounds.inputNumber, Flags.interior, Flags.sought, Flags.flagInterior, Flags.flagAll, Flags.number, Flags.tooFar, Flags.startOf, Flags.endOf, Flags.plainForm, Flags.wantsConcat, Flags.wantsTatweel, Holding.holds, Marks.flaggedRun, Marks.Flaggable, Marks.Flagged, Marks.FlagsInput, Plans.InputRange, Plans.InputFrom}
 use Rattle.edits.proofs.BoundLaws.{end-most}
 use Rattle.edits.proofs.FlagLaws.{flagged-all, flagged-all-within}
 use Rattle.edits.proofs.Places.{paired-flagged-all}
@@ -77,12 +78,22 @@ module _ {b : Buffer} {run other : List ℕ} {s e : ℕ} (v : Mergeful b s e run
       acts-free (v .held) (flagAll bits (s - goneOf b) (e - goneOf b)) lr (rw eg (edit-drop-behind (flagged bits) s e (b .len .0) (glyphs run) (v .order) (v .end))) (all-is eg) .0
 
 -- ---- the tests of the calls
-module _ (b : Buffer) (s e : ℕ) where
-  pub flags-order : e < s → true ≡ (ltb e s || ltb s (goneOf b))
-  flags-order h = rw (lt-ltb e s h)
+module _ (a c : ℕ) (y : Bool) where
+  pub past : a < c → true ≡ (ltb a c || y)
+  past h = rw (lt-ltb a c h)
 
-  pub flags-start : {g : ℕ} → s ≤ e → g ≡ goneOf b → ltb s g ≡ (ltb e s || ltb s (goneOf b))
-  flags-start o k = rw (le-ltb e s o) (ap (ltb s) k)
+  pub not-past : {z : Bool} → c ≤ a → z ≡ y → z ≡ (ltb a c || y)
+  not-past h e = rw (le-ltb a c h) e
+
+module _ (concat x far : Bool) {t : Bool} (h : concat ≡ true) (e : t ≡ x) where
+  pub idle-wanted : t ≡ true → far ≡ (not (not concat || x) || far)
+  idle-wanted k = rw (h, sym e ∙ k)
+
+  pub idle-unwanted : t ≡ false → true ≡ (not (not concat || x) || far)
+  idle-unwanted k = rw (h, sym e ∙ k)
+
+pub start-past : (s : ℕ) (b : Buffer) {g : ℕ} → g ≡ goneOf b → ltb s g ≡ ltb s (goneOf b)
+start-past s b e = ap (ltb s) e
 
 module _ (interiorly wanted : Bool) (bits : ℕ) (s e : Option InputPlace) (a : Account ℕ) where
   abbrev s′ : Option ℕ
@@ -91,92 +102,91 @@ module _ (interiorly wanted : Bool) (bits : ℕ) (s e : Option InputPlace) (a : 
   abbrev e′ : Option ℕ
   e′ = number (λ p. p .0) e
 
-  plain-spoiled : isSpoiled a ≡ true → plainForm interiorly wanted bits s e a ≡ refused WrongPhase
+  plain-in-spoiled : isSpoiled a ≡ true → plainForm interiorly wanted bits s e a ≡ refused WrongPhase
   unfolding plainForm refuse_when_else_
-  plain-spoiled h = rw h
+  plain-in-spoiled h = rw h
 
   module _ (h : isSpoiled a ≡ false) where
-    plain-idle : (not wanted || tooFar s′ e′) ≡ true → plainForm interiorly wanted bits s e a ≡ accepted a
+    plain-in-idle : (not wanted || tooFar s′ e′) ≡ true → plainForm interiorly wanted bits s e a ≡ accepted a
     unfolding plainForm refuse_when_else_
-    plain-idle k = rw (h, k)
+    plain-in-idle k = rw (h, k)
 
     module _ (k : (not wanted || tooFar s′ e′) ≡ false) {i j g : ℕ} (ei : i ≡ startOf s′) (ej : j ≡ endOf e′ (len a)) (eg : g ≡ a .state .gone) where
-      plain-outside : (ltb j i || ltb i g) ≡ true → plainForm interiorly wanted bits s e a ≡ refused OutOfRange
+      plain-in-outside : (ltb j i || ltb i g) ≡ true → plainForm interiorly wanted bits s e a ≡ refused OutOfRange
       unfolding plainForm refuse_when_else_
-      plain-outside o = rw (h, k, ← ei, ← ej, ← eg, o)
+      plain-in-outside o = rw (h, k, ← ei, ← ej, ← eg, o)
 
-      plain-flags : (ltb j i || ltb i g) ≡ false → plainForm interiorly wanted bits s e a ≡ accepted (flagPlain interiorly bits (i - g) (j - g) a)
+      plain-in-flags : (ltb j i || ltb i g) ≡ false → plainForm interiorly wanted bits s e a ≡ accepted (flagPlain interiorly bits (i - g) (j - g) a)
       unfolding plainForm refuse_when_else_
-      plain-flags o = rw (h, k, ← ei, ← ej, ← eg, o)
+      plain-in-flags o = rw (h, k, ← ei, ← ej, ← eg, o)
 
--- an unwanted form is idle, and one that is wanted goes by its bounds
-pub unwanted : (w x : Bool) → w ≡ false → (not w || x) ≡ true
-unwanted w x h = rw h
+-- ---- what the code tested, as the account says it
+pub idle-of : (b : Buffer) (run other : List ℕ) (concat x : Bool) {far idle : Bool} → far ≡ x → idle ≡ (not (not concat || wantsConcat (b .wants)) || far) → (not (not concat || wantsConcat ((accountOf b run other) .state .wants)) || x) ≡ idle
+idle-of b run other concat x ef ei = rw (wants-of b run other, ← ef) (sym ei)
 
-pub wanted-far : (w x y : Bool) {t : Bool} → w ≡ true → t ≡ x → t ≡ y → (not w || x) ≡ y
-wanted-far w x y h et k = rw h (sym et ∙ k)
+pub end-of : {b : Buffer} {run other : List ℕ} {j : ℕ} (end : InputBound) → Held b run other → spoiledPhase (b .phase) ≡ false → j ≡ endOf (inputNumber end) (b .len .0) → j ≡ endOf (inputNumber end) (len (accountOf b run other))
+end-of {b} {run} {other} end v p ee = ee ∙ ap (endOf (inputNumber end)) (sym (len-of b run other v p))
 
--- ---- the places of a plain form
-module _ {b : Buffer} {run other : List ℕ} (v : Held b run other) (e : InputBound) (h : spoiledPhase (b .phase) ≡ false) {j : ℕ} (ej : j ≡ endOf (inputNumber e) (b .len .0)) where
-  pub end-is : j ≡ endOf (inputNumber e) (len (accountOf b run other))
-  end-is = ej ∙ ap (endOf (inputNumber e)) (sym (len-of b run other v h))
+-- the places of a plain form, and what the worker asks for
+mergeful : {b : Buffer} {run other : List ℕ} {i j : ℕ} (end : InputBound) → Held b run other → spoiledPhase (b .phase) ≡ false → j ≡ endOf (inputNumber end) (b .len .0) → (ltb j i || ltb i (goneOf b)) ≡ false → Mergeful b i j run other
+mergeful {b} {run} {other} {i} {j} end v p ee n = record {
+  held = v;
+  whole = p;
+  start = ltb-false i (goneOf b) (neither-right (ltb j i) (ltb i (goneOf b)) n);
+  order = ltb-false j i (neither-left (ltb j i) (ltb i (goneOf b)) n);
+  end = subst (λ (x : ℕ). x ≤ b .len .0) (sym ee) (end-most (inputNumber end) (b .len .0));
+}
 
-  pub plain-in-room : {i : ℕ} {o : Bool} → o ≡ (ltb j i || ltb i (goneOf b)) → o ≡ false → Mergeful b i j run other
-  plain-in-room {i} eo n =
-      let none : (ltb j i || ltb i (goneOf b)) ≡ false = sym eo ∙ n in
-      record {
-        held = v;
-        whole = h;
-        start = ltb-false i (goneOf b) (neither-right (ltb j i) (ltb i (goneOf b)) none);
-        order = ltb-false j i (neither-left (ltb j i) (ltb i (goneOf b)) none);
-        end = subst (λ (x : ℕ). x ≤ b .len .0) (sym ej) (end-most (inputNumber e) (b .len .0));
-      }
+flags-range : {b : Buffer} {run other : List ℕ} {s e : ℕ} → Mergeful b s e run other → Flaggable s e run other
+flags-range {b} {run} {other} v = record { order = v .order; same = glyphs-same run other (v .held .same); fits = omega (arith, v .end, v .held .len-in, v .held .all-in) }
 
--- what the worker asks for
-pub flags-range : {b : Buffer} {run other : List ℕ} {s e : ℕ} → Mergeful b s e run other → (s ≤ e) × (e ≤ length (glyphs run))
-flags-range v = (v .order, omega (arith, v .end, v .held .len-in, v .held .all-in))
+-- ---- what the calls come to, by their tests
+module _ {concat : Bool} {start end : InputBound} {b : Buffer} {f s : List ℕ} {v : Verdict} where
+  pub plain-unsound : sound b f s ≡ false → Leaves b false (No Contradiction) v → FlagsInput concat start end b f s v
+  plain-unsound h w = record { is = λ interiorly bits. decided-unsound h w }
 
--- ---- the calls
-module _ {b : Buffer} {run other : List ℕ} (v : Held b run other) (interiorly wanted : Bool) (bits : ℕ) (s e : InputBound) {r : Reply} where
-  pub plain-in-spoiled : spoiledPhase (b .phase) ≡ true → r ≡ reply b (No WrongPhase) → MeetsIn (λ capacity a. plainForm interiorly wanted bits (inputBound s) (inputBound e) a) b run other r run other
-  plain-in-spoiled h er = in-refused WrongPhase (plain-spoiled interiorly wanted bits (inputBound s) (inputBound e) _ (spoiled-of b run other ∙ h)) v er
+  module _ (h : sound b f s ≡ true) where
+    pub plain-spoiled : spoiledPhase (b .phase) ≡ true → Leaves b false (No WrongPhase) v → FlagsInput concat start end b f s v
+    plain-spoiled k w = record { is = λ interiorly bits. decided-refused h (record { law = λ run other l. plain-in-spoiled interiorly _ _ (inputBound start) (inputBound end) _ (spoiled-of b run other ∙ k) }) w }
 
-  module _ (h : spoiledPhase (b .phase) ≡ false) where
-    idle : (not wanted || tooFar (inputNumber s) (inputNumber e)) ≡ true → r ≡ reply b Done → MeetsIn (λ capacity a. plainForm interiorly wanted bits (inputBound s) (inputBound e) a) b run other r run other
-    idle k er = in-accepted b refl refl refl v (plain-idle interiorly wanted bits (inputBound s) (inputBound e) _ (spoiled-of b run other ∙ h) k) er
+    module _ {far idle : Bool} (p : spoiledPhase (b .phase) ≡ false) (ef : far ≡ tooFar (inputNumber start) (inputNumber end)) (ei : idle ≡ (not (not concat || wantsConcat (b .wants)) || far)) where
+      pub plain-idle : idle ≡ true → Leaves b false Done v → FlagsInput concat start end b f s v
+      plain-idle k w = record { is = λ interiorly bits. decided-accepted h (accepts Done refl (near-same b) (λ run other l.
+        (plain-in-idle interiorly _ _ (inputBound start) (inputBound end) _ (spoiled-of b run other ∙ p) (idle-of b run other concat _ ef ei ∙ k), l .held))) w }
 
-    pub plain-in-unwanted : wanted ≡ false → r ≡ reply b Done → MeetsIn (λ capacity a. plainForm interiorly wanted bits (inputBound s) (inputBound e) a) b run other r run other
-    plain-in-unwanted w er = idle (unwanted wanted _ w) er
+      module _ {i j : ℕ} {out : Bool} (n : idle ≡ false) (es : i ≡ startOf (inputNumber start)) (ee : j ≡ endOf (inputNumber end) (b .len .0)) (eo : out ≡ (ltb j i || ltb i (goneOf b))) where
+        pub plain-outside : out ≡ true → Leaves b false (No OutOfRange) v → FlagsInput concat start end b f s v
+        plain-outside y w = record { is = λ interiorly bits. decided-refused h (record { law = λ run other l.
+          plain-in-outside interiorly _ _ (inputBound start) (inputBound end) _ (spoiled-of b run other ∙ p) (idle-of b run other concat _ ef ei ∙ n) es (end-of end (l .held) p ee) (sym (gone-of b run other)) (sym eo ∙ y) }) w }
 
-    module _ {t : Bool} (w : wanted ≡ true) (et : t ≡ tooFar (inputNumber s) (inputNumber e)) where
-      pub plain-in-far : t ≡ true → r ≡ reply b Done → MeetsIn (λ capacity a. plainForm interiorly wanted bits (inputBound s) (inputBound e) a) b run other r run other
-      plain-in-far k er = idle (wanted-far wanted _ true w et k) er
+        pub plain-ahead : out ≡ false → Leaves b true Done v → FlagsInput concat start end b f s v
+        plain-ahead y w = record { is = λ interiorly bits. rw (← es, ← ee) (decided-does h (record {
+          near = near-same b;
+          none = λ c. absurd (false≢true (sym c));
+          law = λ run other run′ other′ l lr lo act.
+            rw (act .other-is) (in-acts (plain-acts (mergeful end (l .held) p ee (sym eo ∙ y)) (bits (b .wants)) run′ interiorly lr (act .run-is))
+            (plain-in-flags interiorly _ _ (inputBound start) (inputBound end) _ (spoiled-of b run other ∙ p) (idle-of b run other concat _ ef ei ∙ n) es (end-of end (l .held) p ee) (sym (gone-of b run other)) (sym eo ∙ y)
+            ∙ ap (λ (x : ℕ). accepted (flagPlain interiorly (bits x) (i - goneOf b) (j - goneOf b) (accountOf b run other))) (wants-of b run other)) refl);
+        }) (λ c. flags-range (mergeful end (sound-held b f s h) p ee (sym eo ∙ y))) w) }
 
-      module _ (k : t ≡ false) {i j : ℕ} {o : Bool} (ei : i ≡ startOf (inputNumber s)) (ej : j ≡ endOf (inputNumber e) (b .len .0)) (eo : o ≡ (ltb j i || ltb i (goneOf b))) where
-        pub plain-in-outside : o ≡ true → r ≡ reply b (No OutOfRange) → MeetsIn (λ capacity a. plainForm interiorly wanted bits (inputBound s) (inputBound e) a) b run other r run other
-        plain-in-outside y er =
-            in-refused OutOfRange (plain-outside interiorly wanted bits (inputBound s) (inputBound e) _ (spoiled-of b run other ∙ h) (wanted-far wanted _ false w et k) ei (end-is v e h ej) (sym (gone-of b run other)) (sym eo ∙ y)) v er
+-- ---- the exported calls
+module _ {concat : Bool} {start end : InputBound} {b : Buffer} {f s : List ℕ} {v : Verdict} (d : FlagsInput concat start end b f s v) where
+  pub plain-asked : {i j : ℕ} → v .acts ≡ true → i ≡ startOf (inputNumber start) → j ≡ endOf (inputNumber end) (b .len .0) → Flaggable i j f s
+  plain-asked t es ee = rw (es, ee) (d .is true (λ n. 0) .asked t)
 
-        pub plain-in-flags : {run′ : List ℕ} → o ≡ false → length run′ ≡ length run → glyphs run′ ≡ flaggedRun interiorly (readLevel (b .level)) bits i j (glyphs run) → r ≡ reply b Done
-            → MeetsIn (λ capacity a. plainForm interiorly wanted bits (inputBound s) (inputBound e) a) b run other r run′ other
-        plain-in-flags {run′} n lr eg er =
-            in-acts (plain-acts (plain-in-room v e h ej eo n) bits run′ interiorly lr eg)
-            (plain-flags interiorly wanted bits (inputBound s) (inputBound e) _ (spoiled-of b run other ∙ h) (wanted-far wanted _ false w et k) ei (end-is v e h ej) (sym (gone-of b run other)) (sym eo ∙ n)) er
+module _ {start end : InputBound} {b : Buffer} {f s : List ℕ} {v : Verdict} where
+  pub plain-break : FlagsInput false start end b f s v → Decided (λ capacity a. plainForm true true 3 (inputBound start) (inputBound end) a) b f s (settled b v) (v .acts) (Flaggable (startOf (inputNumber start)) (endOf (inputNumber end) (b .len .0)) f s) (Flagged true (readLevel (b .level)) 3 (startOf (inputNumber start)) (endOf (inputNumber end) (b .len .0)))
+  plain-break d = d .is true (λ n. 3)
 
--- ---- what is wanted says how a call goes on
-pub at-wants : {X : Type 0} {b : Buffer} {run other : List ℕ} {r : Reply} {run′ other′ : List ℕ} {x : X} (form : X → Account ℕ → Result ℕ) (want : ℕ → X) → x ≡ want (b .wants)
-    → MeetsIn (λ capacity a. form x a) b run other r run′ other′ → MeetsIn (λ capacity a. form (want (a .state .wants)) a) b run other r run′ other′
-unfolding accountOf stateOf
-at-wants {b = b} {run = run} {other = other} form want h m = in-call (ap (λ y. form y (accountOf b run other)) (sym h)) m
+  pub plain-concat : FlagsInput true start end b f s v → Decided (λ capacity a. plainForm false (wantsConcat (a .state .wants)) 2 (inputBound start) (inputBound end) a) b f s (settled b v) (v .acts) (Flaggable (startOf (inputNumber start)) (endOf (inputNumber end) (b .len .0)) f s) (Flagged false (readLevel (b .level)) 2 (startOf (inputNumber start)) (endOf (inputNumber end) (b .len .0)))
+  plain-concat d = d .is false (λ n. 2)
 
-module _ {b : Buffer} {run other : List ℕ} {r : Reply} {run′ other′ : List ℕ} (s e : Option InputPlace) where
-  pub plain-concat : {x : Bool} → x ≡ wantsConcat (b .wants) → MeetsIn (λ capacity a. plainForm false x 2 s e a) b run other r run′ other′
-      → MeetsIn (λ capacity a. plainForm false (wantsConcat (a .state .wants)) 2 s e a) b run other r run′ other′
-  plain-concat h m = at-wants (λ (w : Bool). plainForm false w 2 s e) (λ (n : ℕ). wantsConcat n) h m
+  pub plain-tatweel : FlagsInput false start end b f s v → Decided (λ capacity a. plainForm true true (cond (wantsTatweel (a .state .wants)) 4 3) (inputBound start) (inputBound end) a) b f s (settled b v) (v .acts) (Flaggable (startOf (inputNumber start)) (endOf (inputNumber end) (b .len .0)) f s) (Flagged true (readLevel (b .level)) (cond (wantsTatweel (b .wants)) 4 3) (startOf (inputNumber start)) (endOf (inputNumber end) (b .len .0)))
+  plain-tatweel d = d .is true (λ n. cond (wantsTatweel n) 4 3)
 
-  pub plain-tatweel : {x : ℕ} → x ≡ cond (wantsTatweel (b .wants)) 4 3 → MeetsIn (λ capacity a. plainForm true true x s e a) b run other r run′ other′
-      → MeetsIn (λ capacity a. plainForm true true (cond (wantsTatweel (a .state .wants)) 4 3) s e a) b run other r run′ other′
-  plain-tatweel h m = at-wants (λ (x : ℕ). plainForm true true x s e) (λ (n : ℕ). cond (wantsTatweel n) 4 3) h m
+-- an act, by the numbers that the code has for its bits and places
+pub flagged-at : {y interiorly : Bool} {level x x′ i i′ j j′ : ℕ} {f s f′ s′ : List ℕ} → Sided y (Flagged interiorly level x i j) f s f′ s′ → x ≡ x′ → i ≡ i′ → j ≡ j′ → Sided y (Flagged interiorly level x′ i′ j′) f s f′ s′
+flagged-at w ex ei ej = rw (← ex, ← ei, ← ej) w
 
 module _ (wants : ℕ) where
   pub tatweel-wanted : wants / 2 % 2 ≡ 1 → _≡_ {A = ℕ} 4 (cond (wantsTatweel wants) 4 3)

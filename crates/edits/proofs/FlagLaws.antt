@@ -18,38 +18,43 @@ use Rattle.edits.proofs.MergePlans.{first-slice, last-slice}
 use Rattle.edits.proofs.Holding.{slice-take, slice-shift, clusters-take, clusters-drop, edit-take-before, edit-drop-behind}
 use Rattle.edits.proofs.Bridge.{input-is, holds-input, input-edit}
 
-pub ahead-within : (p : ℕ → Bool) (l : List (Glyph ℕ)) (i j r : ℕ) → r ≡ i + heads p (slice i j (clusters l)) → i ≤ j → j ≤ length l → (i ≤ r) × (r ≤ length l)
-ahead-within p l i j r er o b =
-    let n : length (slice i j (clusters l)) ≡ j - i = length-slice i j (clusters l) (rw (length-clusters l) b) in
-    let h : heads p (slice i j (clusters l)) ≤ j - i = omega (arith, heads-le p (slice i j (clusters l))) in
-    (omega arith, omega arith)
-
--- f and e are the clusters at the ends of a range i..j of l, and t says whether every glyph not of m is marked
-pub record Ends (l : List (Glyph ℕ)) (level m i j f e : ℕ) (t : Bool) : Type 0 where
-  pub order : i < j
-  pub fits : j ≤ length l
-  pub first-is : f ≡ getD (clusters l) i 4294967295
-  pub last-is : e ≡ getD (clusters l) (j - 1) 4294967295
-  pub test : t ≡ (is 2 level || (isnt m f && isnt m e))
-
-module _ {l : List (Glyph ℕ)} {level m i j f e : ℕ} {t : Bool} (v : Ends l level m i j f e t) (bits : ℕ) where
+-- ---- the interior form, from what its code tests and does: f and e are the clusters at the ends of a range i..j of l
+module _ (level m bits i j : ℕ) (l : List (Glyph ℕ)) {f e : ℕ} {t : Bool} (v : (i < j) × (j ≤ length l)) (ef : f ≡ getD (clusters l) i 4294967295) (ee : e ≡ getD (clusters l) (j - 1) 4294967295) (et : t ≡ (seeksAll level || (isnt m f && isnt m e))) where
   f-is : first (slice i j (clusters l)) ≡ f
-  f-is = first-slice i j (clusters l) (v .order) (rw (length-clusters l) (v .fits)) ∙ sym (v .first-is)
+  f-is = first-slice i j (clusters l) (v .0) (rw (length-clusters l) (v .1)) ∙ sym ef
 
   e-is : last (slice i j (clusters l)) ≡ e
-  e-is = last-slice i j (clusters l) (v .order) (rw (length-clusters l) (v .fits)) ∙ sym (v .last-is)
+  e-is = last-slice i j (clusters l) (v .0) (rw (length-clusters l) (v .1)) ∙ sym ee
 
   pub interior-all : {l′ : List (Glyph ℕ)} → t ≡ true → l′ ≡ edit i j (flaggedUnless m bits) l → l′ ≡ interior level m bits i j l
   unfolding interior
-  interior-all yt el = rw (f-is, e-is, ← v .test, yt) el
+  interior-all yt el = rw (f-is, e-is, ← et, yt) el
 
-  pub interior-back : {at : ℕ} {l′ : List (Glyph ℕ)} → t ≡ false → f ≡ m → at ≡ j - tails (isnt m) (slice i j (clusters l)) → l′ ≡ edit at j (flagged bits) l → l′ ≡ interior level m bits i j l
+  pub interior-part : {from to : ℕ} {l′ : List (Glyph ℕ)} → t ≡ false → from ≡ cond (is m f) (j - tails (isnt m) (slice i j (clusters l))) i → to ≡ cond (is m f) j (i + heads (isnt m) (slice i j (clusters l))) → l′ ≡ edit from to (flagged bits) l → l′ ≡ interior level m bits i j l
   unfolding interior
-  interior-back {at} nt fm ea el = rw (f-is, e-is, ← v .test, nt, eq-eqb f m fm, ← ea) el
+  interior-part {from} {to} {l′} nt ea eo el = rw (f-is, e-is, ← et, nt) (by (is m f) ea eo el)
+    where
+      by : (x : Bool) → from ≡ cond x (j - tails (isnt m) (slice i j (clusters l))) i → to ≡ cond x j (i + heads (isnt m) (slice i j (clusters l))) → l′ ≡ edit from to (flagged bits) l
+          → l′ ≡ cond x (edit (j - tails (isnt m) (slice i j (clusters l))) j (flagged bits) l) (edit i (i + heads (isnt m) (slice i j (clusters l))) (flagged bits) l)
+      by true p q r = rw (← p) (rw q at r)
+      by false p q r = rw (← q) (rw p at r)
 
-  pub interior-front : {at : ℕ} {l′ : List (Glyph ℕ)} → t ≡ false → (f ≡ m → ⊥) → at ≡ i + heads (isnt m) (slice i j (clusters l)) → l′ ≡ edit i at (flagged bits) l → l′ ≡ interior level m bits i j l
-  unfolding interior
-  interior-front {at} nt fm ea el = rw (f-is, e-is, ← v .test, nt, ne-eqb f m fm, ← ea) el
+module _ (m f x y : ℕ) {r : ℕ} where
+  pub of-first : f ≡ m → r ≡ x → r ≡ cond (is m f) x y
+  of-first h e = rw (eq-eqb f m h) e
+
+  pub of-last : (f ≡ m → ⊥) → r ≡ y → r ≡ cond (is m f) x y
+  of-last h e = rw (ne-eqb f m h) e
+
+-- that part of the range
+pub part-order : (x : Bool) (m i j : ℕ) (l : List (Glyph ℕ)) {from to : ℕ} → from ≡ cond x (j - tails (isnt m) (slice i j (clusters l))) i → to ≡ cond x j (i + heads (isnt m) (slice i j (clusters l))) → from ≤ to
+part-order true m i j l p q = omega arith
+part-order false m i j l p q = omega arith
+
+pub part-end : (p : ℕ → Bool) (l : List (Glyph ℕ)) (i j : ℕ) {to : ℕ} → to ≡ i + heads p (slice i j (clusters l)) → (i ≤ j) × (j ≤ length l) → to ≤ j
+part-end p l i j e v =
+    let n : length (slice i j (clusters l)) ≡ j - i = length-slice i j (clusters l) (rw (length-clusters l) (v .1)) in
+    omega (arith, heads-le p (slice i j (clusters l)), v .0)
 
 -- ---- what a flag form seeks
 pub sought-ends : (level s e : ℕ) (cs : List ℕ) → seeksAll level ≡ false → s < e → e ≤ length cs → sought level (slice s e cs) ≡ min (getD cs s 4294967295) (getD cs (e - 1) 4294967295)

@@ -1,27 +1,31 @@
 -- The outbuffer flag forms: from what the slice workers leave to the account, and the calls.
-use mathlib.Core.{Path._≡_, Path.refl, Path.sym, Path.ap, Path._∙_, Path.subst, Bool.Bool, Bool.true, Bool.false, Bool.not, Bool._||_, Option.Option, List.List}
+use mathlib.Core.{Path._≡_, Path.refl, Path.sym, Path.ap, Path._∙_, Path.subst, Bool.Bool, Bool.true, Bool.false, Bool.cond, Bool.not, Bool._||_, Bool.false≢true, Option.Option, List.List}
 use Prim.Native.Nat.{ℕ, _-_, _≤_, _<_}
 use native.Mathlib.Omega.{arith}
-use borrow.Author.Tests.{le-ltb, lt-ltb}
-use lib.{Dec.ltb, ListN.length}
-use Rattle.records.specs.{DonePlace, InputPlace, WrongPhase, OutOfRange, Done, No, Glyphs.Glyph, Glyphs.flagged, Ranges.edit, View.glyphs}
+use borrow.Author.Tests.{le-ltb, lt-ltb, ltb-false}
+use lib.{Dec.ltb, ListN.length, ListN.drop}
+use Rattle.records.specs.{DonePlace, InputPlace, Contradiction, WrongPhase, OutOfRange, Done, No, Glyphs.Glyph, View.glyphs}
 use Rattle.records.proofs.View.{glyphs-same}
-use Rattle.lists.specs.declared.{Buffer.Buffer, Reply.Reply}
-use Rattle.lists.specs.{Account.readLevel, Account.Account, Account.outputPhase, Account.hasOutput, Account.len, Account.idx, Account.outLen, Account.withLimits, Contract.MeetsIn, Results.refused, Results.accepted, Results.refuse_when_else_, State.stateOf, State.Held, States.reply, States.withLimitsOf}
-use Rattle.lists.proofs.{Accounts.output-of, Accounts.out-of, Accounts.idx-of, Calls.in-refused, Calls.in-accepted}
+use Rattle.lists.specs.declared.{Buffer.Buffer, Verdict.Verdict}
+use Rattle.lists.specs.{Account.readLevel, Account.Account, Account.outputPhase, Account.hasOutput, Account.len, Account.idx, Account.outLen, Account.withLimits, Results.refused, Results.accepted, Results.refuse_when_else_, State.accountOf, State.stateOf, State.sound, State.Held, States.withLimitsOf, Verdicts.Leaves, Verdicts.settled, Verdicts.Sided, Verdicts.Decided}
+use Rattle.lists.proofs.{Accounts.output-of, Accounts.out-of, Accounts.idx-of, Accounts.len-of, Accounts.wants-of, Accounts.output-clean, Accounts.sound-held, Decisions.near-same, Decisions.accepts, Decisions.decided-unsound, Decisions.decided-refused, Decisions.decided-accepted, Decisions.decided-does}
 use Rattle.edits.specs.declared.{InputBound.InputBound, DoneBound.DoneBound}
-use Rattle.edits.specs.{Acts.Acts, Bounds.inputBound, Bounds.inputNumber, Bounds.doneBound, Bounds.doneNumber, Flags.interior, Flags.flagOutInterior, Flags.flagOutAll, Flags.number, Flags.tooFar, Flags.startOf, Flags.endOf, Flags.outbufferForm, Flags.wantsConcat, Marks.soughtOut, Marks.flagOut, Marks.OutFlaggable, Plans.OutRange}
-use Rattle.lists.proofs.Accounts.{output-clean}
+use Rattle.edits.specs.{Acts.Acts, Bounds.inputBound, Bounds.inputNumber, Bounds.doneBound, Bounds.doneNumber, Flags.number, Flags.tooFar, Flags.startOf, Flags.endOf, Flags.outbufferForm, Flags.wantsConcat, Marks.flaggedPart, Marks.soughtOut, Marks.flagOut, Marks.OutFlaggable, Marks.OutMarked, Marks.OutFlagged, Marks.FlagsOut, Plans.OutRange}
 use Rattle.edits.proofs.BoundLaws.{end-most}
-use Rattle.edits.proofs.FlagLaws.{interior-behind, interior-length}
-use Rattle.edits.proofs.OutFlags.{out-flagged-apart, out-all-apart, out-flagged-within, out-all-within}
-use Rattle.edits.proofs.Holding.{edit-drop-behind}
-use Rattle.edits.proofs.MergeCalls.{acts-both, in-acts}
+use Rattle.edits.proofs.FlagCalls.{idle-of, end-of}
+use Rattle.edits.proofs.OutFlags.{part-behind, middle-fits, out-flagged-apart, out-flagged-within}
+use Rattle.edits.proofs.MergeCalls.{acts-both, in-acts, neither-left, neither-right}
 use Rattle.edits.proofs.OutCalls.{out-apart, out-within}
-use Rattle.edits.proofs.FlagCalls.{at-wants, end-is, unwanted, wanted-far}
 
--- ---- what the workers ask for
-module _ {b : Buffer} {s e : ℕ} {run other : List ℕ} (v : OutFlaggable b s e run other) where
+-- ---- the account: s..e are places of the output and of the run
+record Placed (b : Buffer) (s e : ℕ) (run other : List ℕ) : Type 0 where
+  pub held : Held b run other
+  pub output : outputPhase (b .phase) ≡ true
+  pub order : s ≤ b .«out_len» .0
+  pub start : b .idx .0 ≤ e
+  pub end : e ≤ b .len .0
+
+module _ {b : Buffer} {s e : ℕ} {run other : List ℕ} (v : Placed b s e run other) where
   flags-apart : OutRange (glyphs run) (glyphs other) (b .idx .0) (b .len .0) (b .«out_len» .0) s e
   flags-apart =
       let same : length (glyphs run) ≡ length (glyphs other) = glyphs-same run other (v .held .same) in
@@ -30,68 +34,50 @@ module _ {b : Buffer} {s e : ℕ} {run other : List ℕ} (v : OutFlaggable b s e
   flags-within : OutRange (glyphs run) (glyphs run) (b .idx .0) (b .len .0) (b .«out_len» .0) s e
   flags-within = record { order = v .order; out-fits = omega (arith, v .held .out-in, v .held .all-in); start = v .start; end = v .end; fits = omega (arith, v .held .len-in, v .held .all-in) }
 
-  pub end-fits : e ≤ length (glyphs run)
+  end-fits : e ≤ length (glyphs run)
   end-fits = omega (arith, v .end, v .held .len-in, v .held .all-in)
 
-  pub room-apart : (s ≤ b .«out_len» .0) × (b .«out_len» .0 ≤ length (glyphs other)) × (b .idx .0 ≤ e) × (e ≤ length (glyphs run))
-  room-apart = (v .order, flags-apart .out-fits, v .start, end-fits)
+  out-flaggable : OutFlaggable (b .idx .0) (b .«out_len» .0) s e run other
+  out-flaggable = record { order = v .order; start = v .start; same = glyphs-same run other (v .held .same); out-fits = flags-within .out-fits; fits = end-fits }
 
-  -- ---- the account
-  module _ {interiorly : Bool} (bits : ℕ) {run′ other′ : List ℕ} (h : b .«have_separate_output» ≡ true) (lr : length run′ ≡ length run) (lo : length other′ ≡ length other) where
-    pub apart-interior : interiorly ≡ true
-        → (glyphs run′ ≡ interior (readLevel (b .level)) (soughtOut (readLevel (b .level)) s (b .«out_len» .0) (b .idx .0) e (glyphs run) (glyphs other)) bits (b .idx .0) e (glyphs run))
-        × (glyphs other′ ≡ interior (readLevel (b .level)) (soughtOut (readLevel (b .level)) s (b .«out_len» .0) (b .idx .0) e (glyphs run) (glyphs other)) bits s (b .«out_len» .0) (glyphs other))
-        → Acts (flagOut interiorly bits s (e - b .idx .0)) b run other b run′ other′
-    unfolding withLimitsOf withLimits stateOf flagOut soughtOut
-    apart-interior y g =
-        acts-both (v .held) (flagOut interiorly bits s (e - b .idx .0)) lr lo
-        (rw (g .0) (interior-behind (readLevel (b .level)) _ bits (b .len .0) (b .idx .0) e (glyphs run) (v .start) end-fits (v .end)))
-        (rw (g .1) (interior-behind (readLevel (b .level)) _ bits (b .«out_len» .0) s (b .«out_len» .0) (glyphs other) (v .order) (flags-apart .out-fits) (omega arith)))
-        (out-apart b (b .limits) run′ other′ (v .output) h
-        ∙ (out-flagged-apart flags-apart bits (stateOf b) (readLevel (b .level)) refl refl (g .0) (g .1) ∙ (ap (flagOutInterior bits s (e - b .idx .0)) (sym (out-apart b (b .limits) run other (v .output) h)) ∙ rw y)))
+  out-acts : (interiorly : Bool) (bits : ℕ) {run′ other′ : List ℕ} → length run′ ≡ length run → length other′ ≡ length other
+      → OutFlagged (b .«have_separate_output») interiorly (readLevel (b .level)) bits (b .idx .0) (b .«out_len» .0) s e run other run′ other′ → Acts (flagOut interiorly bits s (e - b .idx .0)) b run other b run′ other′
+  unfolding withLimitsOf withLimits stateOf
+  out-acts interiorly bits {run′} {other′} lr lo w = by-place (b .«have_separate_output») refl
+    where
+      m : ℕ
+      m = soughtOut (readLevel (b .level)) s (b .«out_len» .0) (b .idx .0) e (glyphs run) (cond (b .«have_separate_output») (glyphs other) (glyphs run))
 
-    pub apart-all : interiorly ≡ false → glyphs run′ ≡ edit (b .idx .0) e (flagged bits) (glyphs run) → glyphs other′ ≡ edit s (b .«out_len» .0) (flagged bits) (glyphs other)
-        → Acts (flagOut interiorly bits s (e - b .idx .0)) b run other b run′ other′
-    unfolding withLimitsOf withLimits stateOf flagOut
-    apart-all n er eo =
-        acts-both (v .held) (flagOut interiorly bits s (e - b .idx .0)) lr lo
-        (rw er (edit-drop-behind (flagged bits) (b .idx .0) e (b .len .0) (glyphs run) (v .start) (v .end)))
-        (rw eo (edit-drop-behind (flagged bits) s (b .«out_len» .0) (b .«out_len» .0) (glyphs other) (v .order) (omega arith)))
-        (out-apart b (b .limits) run′ other′ (v .output) h
-        ∙ (out-all-apart flags-apart bits (stateOf b) er eo ∙ (ap (flagOutAll bits s (e - b .idx .0)) (sym (out-apart b (b .limits) run other (v .output) h)) ∙ rw n)))
+      m-is : (x : Bool) → b .«have_separate_output» ≡ x → m ≡ soughtOut (readLevel (b .level)) s (b .«out_len» .0) (b .idx .0) e (glyphs run) (cond x (glyphs other) (glyphs run))
+      m-is x h = ap (λ (y : Bool). soughtOut (readLevel (b .level)) s (b .«out_len» .0) (b .idx .0) e (glyphs run) (cond y (glyphs other) (glyphs run))) h
 
-  low : b .«have_separate_output» ≡ false → b .«out_len» .0 ≤ b .idx .0
-  low h = v .held .behind (v .output) h
+      by-place : (x : Bool) → b .«have_separate_output» ≡ x → Acts (flagOut interiorly bits s (e - b .idx .0)) b run other b run′ other′
+      by-place true h =
+          let g = w .is .apart h in
+          acts-both (v .held) (flagOut interiorly bits s (e - b .idx .0)) lr lo
+          (rw (g .0) (part-behind interiorly (readLevel (b .level)) m bits (b .len .0) (b .idx .0) e (glyphs run) (v .start) end-fits (v .end)))
+          (rw (g .1) (part-behind interiorly (readLevel (b .level)) m bits (b .«out_len» .0) s (b .«out_len» .0) (glyphs other) (v .order) (flags-apart .out-fits) (omega arith)))
+          (out-apart b (b .limits) run′ other′ (v .output) h
+          ∙ (out-flagged-apart flags-apart interiorly bits (stateOf b) (readLevel (b .level)) refl (m-is true h) (g .0) (g .1) ∙ ap (flagOut interiorly bits s (e - b .idx .0)) (sym (out-apart b (b .limits) run other (v .output) h))))
+      by-place false h =
+          let g = w .is .within h in
+          let low : b .«out_len» .0 ≤ b .idx .0 = v .held .behind (v .output) h in
+          let mid : List (Glyph ℕ) = flaggedPart interiorly (readLevel (b .level)) m bits s (b .«out_len» .0) (glyphs run) in
+          acts-both (v .held) (flagOut interiorly bits s (e - b .idx .0)) lr lo
+          (rw (g .0) (part-behind interiorly (readLevel (b .level)) m bits (b .len .0) (b .idx .0) e mid (v .start) (omega (arith, v .end, middle-fits flags-within low interiorly (readLevel (b .level)) m bits)) (v .end)
+          ∙ part-behind interiorly (readLevel (b .level)) m bits (b .len .0) s (b .«out_len» .0) (glyphs run) (v .order) (flags-within .out-fits) (omega (arith, v .held .idx-in))))
+          (ap (λ (x : List ℕ). drop (b .«out_len» .0) (glyphs x)) (g .1))
+          (out-within b (b .limits) run′ other′ (v .output) h
+          ∙ (out-flagged-within flags-within low interiorly (readLevel (b .level)) m bits (stateOf b) refl (m-is false h) (g .0) ∙ ap (flagOut interiorly bits s (e - b .idx .0)) (sym (out-within b (b .limits) run other (v .output) h))))
 
-  out-before : b .«have_separate_output» ≡ false → b .«out_len» .0 ≤ b .len .0
-  out-before h = omega (arith, low h, v .held .idx-in)
-
-  module _ {interiorly : Bool} (bits : ℕ) {run′ : List ℕ} (h : b .«have_separate_output» ≡ false) (lr : length run′ ≡ length run) where
-    pub within-interior : interiorly ≡ true
-        → glyphs run′ ≡ interior (readLevel (b .level)) (soughtOut (readLevel (b .level)) s (b .«out_len» .0) (b .idx .0) e (glyphs run) (glyphs run)) bits (b .idx .0) e
-        (interior (readLevel (b .level)) (soughtOut (readLevel (b .level)) s (b .«out_len» .0) (b .idx .0) e (glyphs run) (glyphs run)) bits s (b .«out_len» .0) (glyphs run))
-        → Acts (flagOut interiorly bits s (e - b .idx .0)) b run other b run′ other
-    unfolding withLimitsOf withLimits stateOf flagOut soughtOut
-    within-interior y g =
-        let m : ℕ = soughtOut (readLevel (b .level)) s (b .«out_len» .0) (b .idx .0) e (glyphs run) (glyphs run) in
-        let mid : List (Glyph ℕ) = interior (readLevel (b .level)) m bits s (b .«out_len» .0) (glyphs run) in
-        let same : length mid ≡ length (glyphs run) = interior-length (readLevel (b .level)) m bits s (b .«out_len» .0) (glyphs run) (v .order) in
-        acts-both (v .held) (flagOut interiorly bits s (e - b .idx .0)) lr refl
-        (rw g (interior-behind (readLevel (b .level)) m bits (b .len .0) (b .idx .0) e mid (v .start) (rw same end-fits) (v .end)
-        ∙ interior-behind (readLevel (b .level)) m bits (b .len .0) s (b .«out_len» .0) (glyphs run) (v .order) (flags-within .out-fits) (out-before h)))
-        refl
-        (out-within b (b .limits) run′ other (v .output) h
-        ∙ (out-flagged-within flags-within (low h) bits (stateOf b) (readLevel (b .level)) refl refl refl g ∙ (ap (flagOutInterior bits s (e - b .idx .0)) (sym (out-within b (b .limits) run other (v .output) h)) ∙ rw y)))
-
-    pub within-all : {mid : List (Glyph ℕ)} → interiorly ≡ false → mid ≡ edit s (b .«out_len» .0) (flagged bits) (glyphs run) → glyphs run′ ≡ edit (b .idx .0) e (flagged bits) mid
-        → Acts (flagOut interiorly bits s (e - b .idx .0)) b run other b run′ other
-    unfolding withLimitsOf withLimits stateOf flagOut
-    within-all {mid} n ei er =
-        acts-both (v .held) (flagOut interiorly bits s (e - b .idx .0)) lr refl
-        (rw er (edit-drop-behind (flagged bits) (b .idx .0) e (b .len .0) mid (v .start) (v .end) ∙ rw ei (edit-drop-behind (flagged bits) s (b .«out_len» .0) (b .len .0) (glyphs run) (v .order) (out-before h))))
-        refl
-        (out-within b (b .limits) run′ other (v .output) h
-        ∙ (out-all-within flags-within (low h) bits (stateOf b) ei er ∙ (ap (flagOutAll bits s (e - b .idx .0)) (sym (out-within b (b .limits) run other (v .output) h)) ∙ rw n)))
+placed : {b : Buffer} {run other : List ℕ} {i j : ℕ} (end : InputBound) → Held b run other → outputPhase (b .phase) ≡ true → j ≡ endOf (inputNumber end) (b .len .0) → (ltb (b .«out_len» .0) i || ltb j (b .idx .0)) ≡ false → Placed b i j run other
+placed {b} {run} {other} {i} {j} end v p ee n = record {
+  held = v;
+  output = p;
+  order = ltb-false (b .«out_len» .0) i (neither-left (ltb (b .«out_len» .0) i) (ltb j (b .idx .0)) n);
+  start = ltb-false j (b .idx .0) (neither-right (ltb (b .«out_len» .0) i) (ltb j (b .idx .0)) n);
+  end = subst (λ (x : ℕ). x ≤ b .len .0) (sym ee) (end-most (inputNumber end) (b .len .0));
+}
 
 -- ---- the tests of the calls
 module _ (interiorly wanted : Bool) (bits : ℕ) (s : Option DonePlace) (e : Option InputPlace) (a : Account ℕ) where
@@ -101,64 +87,64 @@ module _ (interiorly wanted : Bool) (bits : ℕ) (s : Option DonePlace) (e : Opt
   abbrev e′ : Option ℕ
   e′ = number (λ p. p .0) e
 
-  out-none : hasOutput a ≡ false → outbufferForm interiorly wanted bits s e a ≡ refused WrongPhase
+  out-in-none : hasOutput a ≡ false → outbufferForm interiorly wanted bits s e a ≡ refused WrongPhase
   unfolding outbufferForm refuse_when_else_
-  out-none h = rw h
+  out-in-none h = rw h
 
   module _ (h : hasOutput a ≡ true) where
-    out-idle : (not wanted || tooFar s′ e′) ≡ true → outbufferForm interiorly wanted bits s e a ≡ accepted a
+    out-in-idle : (not wanted || tooFar s′ e′) ≡ true → outbufferForm interiorly wanted bits s e a ≡ accepted a
     unfolding outbufferForm refuse_when_else_
-    out-idle k = rw (h, k)
+    out-in-idle k = rw (h, k)
 
     module _ (k : (not wanted || tooFar s′ e′) ≡ false) {i j x n : ℕ} (ei : i ≡ startOf s′) (ej : j ≡ endOf e′ (len a)) (ex : x ≡ idx a) (en : n ≡ outLen a) where
-      out-outside : (ltb n i || ltb j x) ≡ true → outbufferForm interiorly wanted bits s e a ≡ refused OutOfRange
+      out-in-outside : (ltb n i || ltb j x) ≡ true → outbufferForm interiorly wanted bits s e a ≡ refused OutOfRange
       unfolding outbufferForm refuse_when_else_
-      out-outside o = rw (h, k, ← ei, ← ej, ← ex, ← en, o)
+      out-in-outside o = rw (h, k, ← ei, ← ej, ← ex, ← en, o)
 
-      out-flags : (ltb n i || ltb j x) ≡ false → outbufferForm interiorly wanted bits s e a ≡ accepted (flagOut interiorly bits i (j - x) a)
+      out-in-flags : (ltb n i || ltb j x) ≡ false → outbufferForm interiorly wanted bits s e a ≡ accepted (flagOut interiorly bits i (j - x) a)
       unfolding outbufferForm refuse_when_else_ flagOut
-      out-flags o = rw (h, k, ← ei, ← ej, ← ex, ← en, o)
+      out-in-flags o = rw (h, k, ← ei, ← ej, ← ex, ← en, o)
 
--- the places of an outbuffer form
-pub out-in-room : {b : Buffer} {run other : List ℕ} (v : Held b run other) (e : InputBound) {i j : ℕ} → outputPhase (b .phase) ≡ true → j ≡ endOf (inputNumber e) (b .len .0) → i ≤ b .«out_len» .0 → b .idx .0 ≤ j → OutFlaggable b i j run other
-out-in-room {b = b} v e h ej o p = record { held = v; output = h; order = o; start = p; end = subst (λ (x : ℕ). x ≤ b .len .0) (sym ej) (end-most (inputNumber e) (b .len .0)) }
+-- ---- what the calls come to, by their tests
+module _ {concat : Bool} {start : DoneBound} {end : InputBound} {b : Buffer} {f s : List ℕ} {v : Verdict} where
+  pub out-unsound : sound b f s ≡ false → Leaves b false (No Contradiction) v → FlagsOut concat start end b f s v
+  out-unsound h w = record { is = λ interiorly bits. decided-unsound h w }
 
--- ---- the calls
-module _ {b : Buffer} {run other : List ℕ} (v : Held b run other) (interiorly wanted : Bool) (bits : ℕ) (s : DoneBound) (e : InputBound) {r : Reply} where
-  pub out-in-none : outputPhase (b .phase) ≡ false → r ≡ reply b (No WrongPhase) → MeetsIn (λ capacity a. outbufferForm interiorly wanted bits (doneBound s) (inputBound e) a) b run other r run other
-  out-in-none h er = in-refused WrongPhase (out-none interiorly wanted bits (doneBound s) (inputBound e) _ (output-of b run other ∙ h)) v er
+  module _ (h : sound b f s ≡ true) where
+    pub out-none : outputPhase (b .phase) ≡ false → Leaves b false (No WrongPhase) v → FlagsOut concat start end b f s v
+    out-none k w = record { is = λ interiorly bits. decided-refused h (record { law = λ run other l. out-in-none interiorly _ _ (doneBound start) (inputBound end) _ (output-of b run other ∙ k) }) w }
 
-  module _ (h : outputPhase (b .phase) ≡ true) where
-    idle : (not wanted || tooFar (doneNumber s) (inputNumber e)) ≡ true → r ≡ reply b Done → MeetsIn (λ capacity a. outbufferForm interiorly wanted bits (doneBound s) (inputBound e) a) b run other r run other
-    idle k er = in-accepted b refl refl refl v (out-idle interiorly wanted bits (doneBound s) (inputBound e) _ (output-of b run other ∙ h) k) er
+    module _ {far idle : Bool} (p : outputPhase (b .phase) ≡ true) (ef : far ≡ tooFar (doneNumber start) (inputNumber end)) (ei : idle ≡ (not (not concat || wantsConcat (b .wants)) || far)) where
+      pub out-idle : idle ≡ true → Leaves b false Done v → FlagsOut concat start end b f s v
+      out-idle k w = record { is = λ interiorly bits. decided-accepted h (accepts Done refl (near-same b) (λ run other l.
+        (out-in-idle interiorly _ _ (doneBound start) (inputBound end) _ (output-of b run other ∙ p) (idle-of b run other concat _ ef ei ∙ k), l .held))) w }
 
-    pub out-in-unwanted : wanted ≡ false → r ≡ reply b Done → MeetsIn (λ capacity a. outbufferForm interiorly wanted bits (doneBound s) (inputBound e) a) b run other r run other
-    out-in-unwanted w er = idle (unwanted wanted _ w) er
+      module _ {i j : ℕ} {out : Bool} (n : idle ≡ false) (es : i ≡ startOf (doneNumber start)) (ee : j ≡ endOf (inputNumber end) (b .len .0)) (eo : out ≡ (ltb (b .«out_len» .0) i || ltb j (b .idx .0))) where
+        pub out-outside : out ≡ true → Leaves b false (No OutOfRange) v → FlagsOut concat start end b f s v
+        out-outside y w = record { is = λ interiorly bits. decided-refused h (record { law = λ run other l.
+          out-in-outside interiorly _ _ (doneBound start) (inputBound end) _ (output-of b run other ∙ p) (idle-of b run other concat _ ef ei ∙ n) es (end-of end (l .held) (output-clean (b .phase) p) ee) (sym (idx-of b run other (l .held) (output-clean (b .phase) p))) (sym (out-of b run other (l .held))) (sym eo ∙ y) }) w }
 
-    module _ {t : Bool} (w : wanted ≡ true) (et : t ≡ tooFar (doneNumber s) (inputNumber e)) where
-      pub out-in-far : t ≡ true → r ≡ reply b Done → MeetsIn (λ capacity a. outbufferForm interiorly wanted bits (doneBound s) (inputBound e) a) b run other r run other
-      out-in-far k er = idle (wanted-far wanted _ true w et k) er
+        pub out-ahead : out ≡ false → Leaves b true Done v → FlagsOut concat start end b f s v
+        out-ahead y w = record { is = λ interiorly bits. rw (← es, ← ee) (decided-does h (record {
+          near = near-same b;
+          none = λ c. absurd (false≢true (sym c));
+          law = λ run other run′ other′ l lr lo act.
+            in-acts (out-acts (placed end (l .held) p ee (sym eo ∙ y)) interiorly (bits (b .wants)) lr lo act)
+            (out-in-flags interiorly _ _ (doneBound start) (inputBound end) _ (output-of b run other ∙ p) (idle-of b run other concat _ ef ei ∙ n) es (end-of end (l .held) (output-clean (b .phase) p) ee) (sym (idx-of b run other (l .held) (output-clean (b .phase) p))) (sym (out-of b run other (l .held))) (sym eo ∙ y)
+            ∙ ap (λ (x : ℕ). accepted (flagOut interiorly (bits x) i (j - b .idx .0) (accountOf b run other))) (wants-of b run other)) refl;
+        }) (λ c. out-flaggable (placed end (sound-held b f s h) p ee (sym eo ∙ y))) w) }
 
-      module _ (k : t ≡ false) {i j : ℕ} (ei : i ≡ startOf (doneNumber s)) (ej : j ≡ endOf (inputNumber e) (b .len .0)) where
-        outside : (ltb (b .«out_len» .0) i || ltb j (b .idx .0)) ≡ true → r ≡ reply b (No OutOfRange) → MeetsIn (λ capacity a. outbufferForm interiorly wanted bits (doneBound s) (inputBound e) a) b run other r run other
-        outside o er =
-            in-refused OutOfRange (out-outside interiorly wanted bits (doneBound s) (inputBound e) _ (output-of b run other ∙ h) (wanted-far wanted _ false w et k) ei (end-is v e (output-clean (b .phase) h) ej) (sym (idx-of b run other v (output-clean (b .phase) h))) (sym (out-of b run other v)) o) v er
+-- ---- the exported calls
+module _ {concat : Bool} {start : DoneBound} {end : InputBound} {b : Buffer} {f s : List ℕ} {v : Verdict} (d : FlagsOut concat start end b f s v) where
+  pub out-asked : {i j : ℕ} → v .acts ≡ true → i ≡ startOf (doneNumber start) → j ≡ endOf (inputNumber end) (b .len .0) → OutFlaggable (b .idx .0) (b .«out_len» .0) i j f s
+  out-asked t es ee = rw (es, ee) (d .is true (λ n. 0) .asked t)
 
-        pub out-in-start : b .«out_len» .0 < i → r ≡ reply b (No OutOfRange) → MeetsIn (λ capacity a. outbufferForm interiorly wanted bits (doneBound s) (inputBound e) a) b run other r run other
-        out-in-start o er = outside (rw (lt-ltb (b .«out_len» .0) i o)) er
+module _ {start : DoneBound} {end : InputBound} {b : Buffer} {f s : List ℕ} {v : Verdict} where
+  pub out-break : FlagsOut false start end b f s v → Decided (λ capacity a. outbufferForm true true 3 (doneBound start) (inputBound end) a) b f s (settled b v) (v .acts) (OutFlaggable (b .idx .0) (b .«out_len» .0) (startOf (doneNumber start)) (endOf (inputNumber end) (b .len .0)) f s) (OutFlagged (b .«have_separate_output») true (readLevel (b .level)) 3 (b .idx .0) (b .«out_len» .0) (startOf (doneNumber start)) (endOf (inputNumber end) (b .len .0)))
+  out-break d = d .is true (λ n. 3)
 
-        module _ (o : i ≤ b .«out_len» .0) where
-          pub out-in-end : j < b .idx .0 → r ≡ reply b (No OutOfRange) → MeetsIn (λ capacity a. outbufferForm interiorly wanted bits (doneBound s) (inputBound e) a) b run other r run other
-          out-in-end p er = outside (rw (le-ltb (b .«out_len» .0) i o, lt-ltb j (b .idx .0) p)) er
+  pub out-concat : FlagsOut true start end b f s v → Decided (λ capacity a. outbufferForm false (wantsConcat (a .state .wants)) 2 (doneBound start) (inputBound end) a) b f s (settled b v) (v .acts) (OutFlaggable (b .idx .0) (b .«out_len» .0) (startOf (doneNumber start)) (endOf (inputNumber end) (b .len .0)) f s) (OutFlagged (b .«have_separate_output») false (readLevel (b .level)) 2 (b .idx .0) (b .«out_len» .0) (startOf (doneNumber start)) (endOf (inputNumber end) (b .len .0)))
+  out-concat d = d .is false (λ n. 2)
 
-          module _ (p : b .idx .0 ≤ j) where
-            pub out-in-flags : {run′ other′ : List ℕ} → Acts (flagOut interiorly bits i (j - b .idx .0)) b run other b run′ other′ → r ≡ reply b Done
-                → MeetsIn (λ capacity a. outbufferForm interiorly wanted bits (doneBound s) (inputBound e) a) b run other r run′ other′
-            out-in-flags u er =
-                in-acts u
-                (out-flags interiorly wanted bits (doneBound s) (inputBound e) _ (output-of b run other ∙ h) (wanted-far wanted _ false w et k) ei (end-is v e (output-clean (b .phase) h) ej) (sym (idx-of b run other v (output-clean (b .phase) h))) (sym (out-of b run other v))
-                (rw (le-ltb (b .«out_len» .0) i o, le-ltb j (b .idx .0) p))) er
-
-pub out-concat : {b : Buffer} {run other : List ℕ} {r : Reply} {run′ other′ : List ℕ} {x : Bool} (s : Option DonePlace) (e : Option InputPlace) → x ≡ wantsConcat (b .wants)
-    → MeetsIn (λ capacity a. outbufferForm false x 2 s e a) b run other r run′ other′ → MeetsIn (λ capacity a. outbufferForm false (wantsConcat (a .state .wants)) 2 s e a) b run other r run′ other′
-out-concat s e h m = at-wants (λ (w : Bool). outbufferForm false w 2 s e) (λ (n : ℕ). wantsConcat n) h m
+pub out-at : {y separate interiorly : Bool} {level x idx outLen i i′ j j′ : ℕ} {f s f′ s′ : List ℕ} → Sided y (OutFlagged separate interiorly level x idx outLen i j) f s f′ s′ → i ≡ i′ → j ≡ j′ → Sided y (OutFlagged separate interiorly level x idx outLen i′ j′) f s f′ s′
+out-at w ei ej = rw (← ei, ← ej) w

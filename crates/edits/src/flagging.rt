@@ -1,14 +1,12 @@
-// Flags: calls 15 to 19.
+// Flags: calls 15 to 19. Each decides, acts and settles.
 ghost use mathlib.Core.Path.{_≡_};
-ghost use mathlib.Core.Bool.{true, false, cond, _||_};
-ghost use Prim.Native.Nat.{_-_};
+ghost use mathlib.Core.Bool.{true, false, cond, not, _||_};
 ghost use lib.Dec.{ltb};
-ghost use Rattle.lists.specs.State.{Held, goneOf};
-ghost use Rattle.lists.specs.Contract.{Meets, MeetsIn};
+ghost use Rattle.lists.specs.State.{goneOf};
+ghost use Rattle.lists.specs.Contract.{Meets};
 ghost use Rattle.edits.specs.Flags.{wantsConcat, wantsTatweel, plainForm, outbufferForm};
 ghost use Rattle.edits.specs.Bounds.{inputBound, doneBound};
-ghost use Rattle.edits.specs.Acts.{Acts};
-ghost use Rattle.edits.specs.Marks.{OutFlaggable, flagOut};
+ghost use Rattle.edits.specs.Marks.{FlagsInput, FlagsOut};
 use super::DoneBound;
 use super::InputBound;
 use super::bounds;
@@ -16,7 +14,10 @@ use super::marking;
 use super::merges;
 use lists::Buffer;
 use lists::Reply;
+use lists::Verdict;
 use lists::state;
+use lists::verdicts;
+use records::Answer;
 use records::Refusal;
 
 fn wants_concat(wants: u32) -> bool
@@ -31,6 +32,19 @@ fn tatweel_bits(wants: u32) -> u32
     if wants / 2 % 2 == 1 { 4 } else { 3 }
 }
 
+// Whether a form does nothing: a concat form unwanted, or its bounds too far from each other.
+fn idles(concat: bool, wants: u32, far: bool) -> bool
+    ensures { λ r. ⌜ r ≡ (not (not concat || wantsConcat wants) || far) ⌝ }
+{
+    if concat {
+        if wants_concat(wants) {
+            return far;
+        }
+        return true;
+    }
+    far
+}
+
 fn outside_flags(b: Buffer, s: usize, e: usize) -> bool
     ensures { λ r. ⌜ r ≡ (ltb e s || ltb s (goneOf b)) ⌝ }
 {
@@ -40,37 +54,67 @@ fn outside_flags(b: Buffer, s: usize, e: usize) -> bool
     s < merges::gone(b)
 }
 
-// The plain forms.
-fn flag_in(
+fn outside_out(b: Buffer, s: usize, e: usize) -> bool
+    ensures { λ r. ⌜ r ≡ (ltb (b .«out_len» .0) s || ltb e (b .idx .0)) ⌝ }
+{
+    if b.out_len.0 < s {
+        return true;
+    }
+    e < b.idx.0
+}
+
+// 15 to 17
+fn plain_verdict(
     b: Buffer,
-    run: &mut [u32],
-    other: &mut [u32],
-    interiorly: bool,
-    wanted: bool,
-    bits: u32,
+    first: &[u32],
+    second: &[u32],
+    concat: bool,
     start: InputBound,
     end: InputBound,
-) -> Reply
-    requires { ⌜ Held b (now run) (now other) ⌝ }
-    ensures { λ r. ⌜ MeetsIn (λ capacity a. plainForm interiorly wanted bits (inputBound start) (inputBound end) a) b (now (run .entry)) (now (other .entry)) r (now (run .exit)) (now (other .exit)) ⌝ }
+) -> Verdict
+    ensures { λ v. ⌜ FlagsInput concat start end b (now (first .entry)) (now (second .entry)) v ⌝ }
 {
-    let phase = b.phase;
-    if state::is_spoiled(phase) {
-        return state::refusal(b, Refusal::WrongPhase);
-    }
-    if wanted {
-        if bounds::input_too_far(start, end) {
-            return state::accepted(b);
+    if state::is_sound(b, first, second) {
+        let phase = b.phase;
+        if state::is_spoiled(phase) {
+            return verdicts::refused(b, Refusal::WrongPhase);
         }
-        let s = bounds::input_start(start);
-        let e = bounds::input_end(end, b.len.0);
-        if outside_flags(b, s, e) {
-            return state::refusal(b, Refusal::OutOfRange);
+        if idles(concat, b.wants, bounds::input_too_far(start, end)) {
+            return verdicts::verdict(b, false, Answer::Done);
         }
-        marking::flag_run(run, interiorly, b.level, bits, s, e);
-        return state::accepted(b);
+        if outside_flags(b, bounds::input_start(start), bounds::input_end(end, b.len.0)) {
+            return verdicts::refused(b, Refusal::OutOfRange);
+        }
+        return verdicts::verdict(b, true, Answer::Done);
     }
-    state::accepted(b)
+    verdicts::refused(b, Refusal::Contradiction)
+}
+
+// 18 and 19
+fn out_verdict(
+    b: Buffer,
+    first: &[u32],
+    second: &[u32],
+    concat: bool,
+    start: DoneBound,
+    end: InputBound,
+) -> Verdict
+    ensures { λ v. ⌜ FlagsOut concat start end b (now (first .entry)) (now (second .entry)) v ⌝ }
+{
+    if state::is_sound(b, first, second) {
+        let phase = b.phase;
+        if state::have_output(phase) {
+            if idles(concat, b.wants, bounds::done_too_far(start, end)) {
+                return verdicts::verdict(b, false, Answer::Done);
+            }
+            if outside_out(b, bounds::done_start(start), bounds::input_end(end, b.len.0)) {
+                return verdicts::refused(b, Refusal::OutOfRange);
+            }
+            return verdicts::verdict(b, true, Answer::Done);
+        }
+        return verdicts::refused(b, Refusal::WrongPhase);
+    }
+    verdicts::refused(b, Refusal::Contradiction)
 }
 
 // 15
@@ -83,13 +127,13 @@ pub fn unsafe_to_break(
 ) -> Reply
     ensures { λ r. ⌜ Meets (λ capacity a. plainForm true true 3 (inputBound start) (inputBound end) a) b (now (first .entry)) (now (second .entry)) r (now (first .exit)) (now (second .exit)) ⌝ }
 {
-    if state::is_sound(b, first, second) {
-        if b.swapped {
-            return flag_in(b, second, first, true, true, 3, start, end);
-        }
-        return flag_in(b, first, second, true, true, 3, start, end);
+    let v = plain_verdict(b, first, second, false, start, end);
+    if v.acts {
+        let s = bounds::input_start(start);
+        let e = bounds::input_end(end, b.len.0);
+        marking::flag_by(first, second, b.swapped, true, b.level, 3, s, e);
     }
-    state::refusal(b, Refusal::Contradiction)
+    verdicts::settled(b, v)
 }
 
 // 16
@@ -102,14 +146,13 @@ pub fn unsafe_to_concat(
 ) -> Reply
     ensures { λ r. ⌜ Meets (λ capacity a. plainForm false (wantsConcat (a .state .wants)) 2 (inputBound start) (inputBound end) a) b (now (first .entry)) (now (second .entry)) r (now (first .exit)) (now (second .exit)) ⌝ }
 {
-    if state::is_sound(b, first, second) {
-        let wanted = wants_concat(b.wants);
-        if b.swapped {
-            return flag_in(b, second, first, false, wanted, 2, start, end);
-        }
-        return flag_in(b, first, second, false, wanted, 2, start, end);
+    let v = plain_verdict(b, first, second, true, start, end);
+    if v.acts {
+        let s = bounds::input_start(start);
+        let e = bounds::input_end(end, b.len.0);
+        marking::flag_by(first, second, b.swapped, false, b.level, 2, s, e);
     }
-    state::refusal(b, Refusal::Contradiction)
+    verdicts::settled(b, v)
 }
 
 // 17. Unwanted, it is 15.
@@ -122,83 +165,13 @@ pub fn safe_to_insert_tatweel(
 ) -> Reply
     ensures { λ r. ⌜ Meets (λ capacity a. plainForm true true (cond (wantsTatweel (a .state .wants)) 4 3) (inputBound start) (inputBound end) a) b (now (first .entry)) (now (second .entry)) r (now (first .exit)) (now (second .exit)) ⌝ }
 {
-    if state::is_sound(b, first, second) {
-        let bits = tatweel_bits(b.wants);
-        if b.swapped {
-            return flag_in(b, second, first, true, true, bits, start, end);
-        }
-        return flag_in(b, first, second, true, true, bits, start, end);
+    let v = plain_verdict(b, first, second, false, start, end);
+    if v.acts {
+        let s = bounds::input_start(start);
+        let e = bounds::input_end(end, b.len.0);
+        marking::flag_by(first, second, b.swapped, true, b.level, tatweel_bits(b.wants), s, e);
     }
-    state::refusal(b, Refusal::Contradiction)
-}
-
-// Flags from place s of the output on, up to place e of the run.
-fn flag_out(
-    b: Buffer,
-    run: &mut [u32],
-    other: &mut [u32],
-    interiorly: bool,
-    bits: u32,
-    s: usize,
-    e: usize,
-)
-    requires { ⌜ OutFlaggable b s e (now run) (now other) ⌝ }
-    ensures { λ r. ⌜ Acts (flagOut interiorly bits s (e - b .idx .0)) b (now (run .entry)) (now (other .entry)) b (now (run .exit)) (now (other .exit)) ⌝ }
-{
-    let idx = b.idx.0;
-    let level = b.level;
-    let out_len = b.out_len.0;
-    if b.have_separate_output {
-        if interiorly {
-            marking::mark_apart(run, other, level, bits, idx, out_len, s, e);
-        } else {
-            lists::ranges::or_masks(other, s, out_len, bits);
-            lists::ranges::or_masks(run, idx, e, bits);
-        }
-    } else {
-        if interiorly {
-            marking::mark_within(run, level, bits, idx, out_len, s, e);
-        } else {
-            lists::ranges::or_masks(run, s, out_len, bits);
-            lists::ranges::or_masks(run, idx, e, bits);
-        }
-    }
-}
-
-// The outbuffer forms.
-fn flag_out_in(
-    b: Buffer,
-    run: &mut [u32],
-    other: &mut [u32],
-    interiorly: bool,
-    wanted: bool,
-    bits: u32,
-    start: DoneBound,
-    end: InputBound,
-) -> Reply
-    requires { ⌜ Held b (now run) (now other) ⌝ }
-    ensures { λ r. ⌜ MeetsIn (λ capacity a. outbufferForm interiorly wanted bits (doneBound start) (inputBound end) a) b (now (run .entry)) (now (other .entry)) r (now (run .exit)) (now (other .exit)) ⌝ }
-{
-    let phase = b.phase;
-    if state::have_output(phase) {
-        if wanted {
-            if bounds::done_too_far(start, end) {
-                return state::accepted(b);
-            }
-            let s = bounds::done_start(start);
-            let e = bounds::input_end(end, b.len.0);
-            if b.out_len.0 < s {
-                return state::refusal(b, Refusal::OutOfRange);
-            }
-            if e < b.idx.0 {
-                return state::refusal(b, Refusal::OutOfRange);
-            }
-            flag_out(b, run, other, interiorly, bits, s, e);
-            return state::accepted(b);
-        }
-        return state::accepted(b);
-    }
-    state::refusal(b, Refusal::WrongPhase)
+    verdicts::settled(b, v)
 }
 
 // 18
@@ -211,13 +184,13 @@ pub fn unsafe_to_break_from_outbuffer(
 ) -> Reply
     ensures { λ r. ⌜ Meets (λ capacity a. outbufferForm true true 3 (doneBound start) (inputBound end) a) b (now (first .entry)) (now (second .entry)) r (now (first .exit)) (now (second .exit)) ⌝ }
 {
-    if state::is_sound(b, first, second) {
-        if b.swapped {
-            return flag_out_in(b, second, first, true, true, 3, start, end);
-        }
-        return flag_out_in(b, first, second, true, true, 3, start, end);
+    let v = out_verdict(b, first, second, false, start, end);
+    if v.acts {
+        let s = bounds::done_start(start);
+        let e = bounds::input_end(end, b.len.0);
+        marking::flag_out_by(first, second, b.swapped, b.have_separate_output, true, b.level, 3, b.idx.0, b.out_len.0, s, e);
     }
-    state::refusal(b, Refusal::Contradiction)
+    verdicts::settled(b, v)
 }
 
 // 19
@@ -230,12 +203,11 @@ pub fn unsafe_to_concat_from_outbuffer(
 ) -> Reply
     ensures { λ r. ⌜ Meets (λ capacity a. outbufferForm false (wantsConcat (a .state .wants)) 2 (doneBound start) (inputBound end) a) b (now (first .entry)) (now (second .entry)) r (now (first .exit)) (now (second .exit)) ⌝ }
 {
-    if state::is_sound(b, first, second) {
-        let wanted = wants_concat(b.wants);
-        if b.swapped {
-            return flag_out_in(b, second, first, false, wanted, 2, start, end);
-        }
-        return flag_out_in(b, first, second, false, wanted, 2, start, end);
+    let v = out_verdict(b, first, second, true, start, end);
+    if v.acts {
+        let s = bounds::done_start(start);
+        let e = bounds::input_end(end, b.len.0);
+        marking::flag_out_by(first, second, b.swapped, b.have_separate_output, false, b.level, 2, b.idx.0, b.out_len.0, s, e);
     }
-    state::refusal(b, Refusal::Contradiction)
+    verdicts::settled(b, v)
 }

@@ -1,10 +1,10 @@
 // Flags over ranges of glyphs. A range ends before its end.
 ghost use mathlib.Core.Path.{_≡_};
-ghost use mathlib.Core.Bool.{_&&_, _||_};
-ghost use Prim.Native.Nat.{_≤_, _<_, min};
+ghost use mathlib.Core.Bool.{cond, _&&_, _||_};
+ghost use Prim.Native.Nat.{_+_, _-_, _≤_, _<_, min};
 ghost use lib.ListN.{length};
 ghost use lib.Seq.{slice};
-ghost use Rattle.records.specs.Ranges.{clusters, isnt};
+ghost use Rattle.records.specs.Ranges.{clusters, heads, is, isnt, tails};
 ghost use Rattle.records.specs.View.{glyphs};
 ghost use Rattle.lists.specs.Account.{readLevel};
 ghost use Rattle.edits.specs.Flags.{interior, sought, seeksAll};
@@ -29,6 +29,27 @@ fn marks_all(level: u32, first: u32, last: u32, cluster: u32) -> bool
     last != cluster
 }
 
+// Where one end of a range has the cluster: what is marked then starts behind the last of it, if the first has it, and ends before the first of it otherwise.
+fn marked_from(ws: &[u32], first: u32, cluster: u32, s: usize, e: usize) -> usize
+    requires { ⌜ e ≤ length (glyphs (now ws)) ⌝ }
+    ensures { λ r. ⌜ r ≡ cond (is cluster first) (e - tails (isnt cluster) (slice s e (clusters (glyphs (now (ws .entry)))))) s ⌝ }
+{
+    if first == cluster {
+        return lists::ranges::other_start(ws, s, e, cluster);
+    }
+    s
+}
+
+fn marked_to(ws: &[u32], first: u32, cluster: u32, s: usize, e: usize) -> usize
+    requires { ⌜ (s ≤ e) × (e ≤ length (glyphs (now ws))) ⌝ }
+    ensures { λ r. ⌜ (r ≡ cond (is cluster first) e (s + heads (isnt cluster) (slice s e (clusters (glyphs (now (ws .entry))))))) × (r ≤ e) ⌝ }
+{
+    if first == cluster {
+        return e;
+    }
+    lists::ranges::other_end(ws, s, e, cluster)
+}
+
 // The interior form of a flag over a range, for a cluster that was sought.
 pub(crate) fn mark_interior(ws: &mut [u32], level: u32, cluster: u32, bits: u32, s: usize, e: usize)
     requires { ⌜ (s < e) × (e ≤ length (glyphs (now ws))) ⌝ }
@@ -39,13 +60,9 @@ pub(crate) fn mark_interior(ws: &mut [u32], level: u32, cluster: u32, bits: u32,
     if marks_all(level, first, last, cluster) {
         lists::ranges::or_masks_unless(ws, s, e, cluster, bits);
     } else {
-        if first == cluster {
-            let at = lists::ranges::other_start(ws, s, e, cluster);
-            lists::ranges::or_masks(ws, at, e, bits);
-        } else {
-            let at = lists::ranges::other_end(ws, s, e, cluster);
-            lists::ranges::or_masks(ws, s, at, bits);
-        }
+        let from = marked_from(ws, first, cluster, s, e);
+        let to = marked_to(ws, first, cluster, s, e);
+        lists::ranges::or_masks(ws, from, to, bits);
     }
 }
 

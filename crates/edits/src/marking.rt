@@ -1,17 +1,20 @@
 // The flag forms on slices. A range ends before its end, and may be empty.
 ghost use mathlib.Core.Path.{_≡_};
+ghost use mathlib.Core.Bool.{true, false, cond};
 ghost use Prim.Native.Nat.{_≤_};
 ghost use lib.ListN.{length};
 ghost use lib.Seq.{slice};
 ghost use Rattle.records.specs.Ranges.{clusters};
 ghost use Rattle.records.specs.View.{glyphs};
 ghost use Rattle.lists.specs.Account.{readLevel};
-ghost use Rattle.edits.specs.Flags.{interior, sought};
-ghost use Rattle.edits.specs.Marks.{flaggedRun, soughtOut};
+ghost use Rattle.lists.specs.Contract.{exchanged};
+ghost use Rattle.lists.specs.Verdicts.{Sided};
+ghost use Rattle.edits.specs.Flags.{sought};
+ghost use Rattle.edits.specs.Marks.{flaggedRun, soughtIn, Flaggable, OutFlaggable, Flagged, Marked, OutFlagged};
 use super::flags;
 
 // A plain form on the run.
-pub(crate) fn flag_run(ws: &mut [u32], interiorly: bool, level: u32, bits: u32, s: usize, e: usize)
+fn flag_run(ws: &mut [u32], interiorly: bool, level: u32, bits: u32, s: usize, e: usize)
     requires { ⌜ (s ≤ e) × (e ≤ length (glyphs (now ws))) ⌝ }
     ensures { λ r. ⌜ glyphs (now (ws .exit)) ≡ flaggedRun interiorly (readLevel level) bits s e (glyphs (now (ws .entry))) ⌝ }
 {
@@ -24,51 +27,106 @@ pub(crate) fn flag_run(ws: &mut [u32], interiorly: bool, level: u32, bits: u32, 
     }
 }
 
-// The cluster that a form seeks in a range. An empty one has the largest word.
-fn sought_any(ws: &[u32], level: u32, s: usize, e: usize) -> u32
-    requires { ⌜ (s ≤ e) × (e ≤ length (glyphs (now ws))) ⌝ }
-    ensures { λ r. ⌜ r ≡ sought (readLevel level) (slice s e (clusters (glyphs (now (ws .entry))))) ⌝ }
+// The same, wherever the run lies.
+pub(crate) fn flag_by(
+    first: &mut [u32],
+    second: &mut [u32],
+    swapped: bool,
+    interiorly: bool,
+    level: u32,
+    bits: u32,
+    s: usize,
+    e: usize,
+)
+    requires { ⌜ Flaggable s e (now first) (now second) ⌝ }
+    ensures { λ r. ⌜ Sided swapped (Flagged interiorly (readLevel level) bits s e) (now (first .entry)) (now (second .entry)) (now (first .exit)) (now (second .exit)) ⌝ }
+{
+    if swapped {
+        flag_run(second, interiorly, level, bits, s, e);
+    } else {
+        flag_run(first, interiorly, level, bits, s, e);
+    }
+}
+
+// Whether the second slice holds the output.
+fn output_second(swapped: bool, separate: bool) -> bool
+    ensures { λ r. ⌜ r ≡ exchanged separate swapped ⌝ }
+{
+    if separate {
+        return !swapped;
+    }
+    swapped
+}
+
+// The cluster that a form seeks in a range of the second slice, or of the first. An empty range has the largest word.
+fn sought_by(
+    first: &[u32],
+    second: &[u32],
+    in_second: bool,
+    level: u32,
+    s: usize,
+    e: usize,
+) -> u32
+    requires { ⌜ Flaggable s e (now first) (now second) ⌝ }
+    ensures { λ r. ⌜ r ≡ sought (readLevel level) (slice s e (clusters (glyphs (cond «in_second» (now (second .entry)) (now (first .entry)))))) ⌝ }
 {
     if s < e {
-        return flags::sought_cluster(ws, level, s, e);
+        if in_second {
+            return flags::sought_cluster(second, level, s, e);
+        }
+        return flags::sought_cluster(first, level, s, e);
     }
     4294967295
 }
 
-fn mark_any(ws: &mut [u32], level: u32, cluster: u32, bits: u32, s: usize, e: usize)
-    requires { ⌜ (s ≤ e) × (e ≤ length (glyphs (now ws))) ⌝ }
-    ensures { λ r. ⌜ glyphs (now (ws .exit)) ≡ interior (readLevel level) cluster bits s e (glyphs (now (ws .entry))) ⌝ }
+// The interior form over a range, for a cluster that was sought.
+fn mark_by(
+    first: &mut [u32],
+    second: &mut [u32],
+    in_second: bool,
+    level: u32,
+    cluster: u32,
+    bits: u32,
+    s: usize,
+    e: usize,
+)
+    requires { ⌜ Flaggable s e (now first) (now second) ⌝ }
+    ensures { λ r. ⌜ Sided «in_second» (Marked (readLevel level) cluster bits s e) (now (first .entry)) (now (second .entry)) (now (first .exit)) (now (second .exit)) ⌝ }
 {
     if s < e {
-        flags::mark_interior(ws, level, cluster, bits, s, e);
+        if in_second {
+            flags::mark_interior(second, level, cluster, bits, s, e);
+        } else {
+            flags::mark_interior(first, level, cluster, bits, s, e);
+        }
     }
 }
 
-// The interior form from place s of the output on, up to place e of the run.
-pub(crate) fn mark_apart(
-    run: &mut [u32],
-    out: &mut [u32],
+// The cluster that an outbuffer form seeks: from place s of the output on, and up to place e of the run.
+fn sought_out(
+    first: &[u32],
+    second: &[u32],
+    swapped: bool,
+    separate: bool,
     level: u32,
-    bits: u32,
     idx: usize,
     out_len: usize,
     s: usize,
     e: usize,
-)
-    requires { ⌜ (s ≤ «out_len») × («out_len» ≤ length (glyphs (now out))) × (idx ≤ e) × (e ≤ length (glyphs (now run))) ⌝ }
-    ensures { λ r. ⌜ (glyphs (now (run .exit)) ≡ interior (readLevel level) (soughtOut (readLevel level) s «out_len» idx e (glyphs (now (run .entry))) (glyphs (now (out .entry)))) bits idx e (glyphs (now (run .entry)))) × (glyphs (now (out .exit)) ≡ interior (readLevel level) (soughtOut (readLevel level) s «out_len» idx e (glyphs (now (run .entry))) (glyphs (now (out .entry)))) bits s «out_len» (glyphs (now (out .entry)))) ⌝ }
+) -> u32
+    requires { ⌜ OutFlaggable idx «out_len» s e (now first) (now second) ⌝ }
+    ensures { λ r. ⌜ r ≡ soughtIn swapped separate (readLevel level) idx «out_len» s e (now (first .entry)) (now (second .entry)) ⌝ }
 {
-    let m = flags::lesser(
-        sought_any(out, level, s, out_len),
-        sought_any(run, level, idx, e),
-    );
-    mark_any(out, level, m, bits, s, out_len);
-    mark_any(run, level, m, bits, idx, e);
+    let in_output = sought_by(first, second, output_second(swapped, separate), level, s, out_len);
+    flags::lesser(in_output, sought_by(first, second, swapped, level, idx, e))
 }
 
-// The same with the output in the run.
-pub(crate) fn mark_within(
-    run: &mut [u32],
+// The interior form there, the output first, wherever it lies.
+fn mark_out_by(
+    first: &mut [u32],
+    second: &mut [u32],
+    swapped: bool,
+    separate: bool,
     level: u32,
     bits: u32,
     idx: usize,
@@ -76,13 +134,54 @@ pub(crate) fn mark_within(
     s: usize,
     e: usize,
 )
-    requires { ⌜ (s ≤ «out_len») × («out_len» ≤ length (glyphs (now run))) × (idx ≤ e) × (e ≤ length (glyphs (now run))) ⌝ }
-    ensures { λ r. ⌜ glyphs (now (run .exit)) ≡ interior (readLevel level) (soughtOut (readLevel level) s «out_len» idx e (glyphs (now (run .entry))) (glyphs (now (run .entry)))) bits idx e (interior (readLevel level) (soughtOut (readLevel level) s «out_len» idx e (glyphs (now (run .entry))) (glyphs (now (run .entry)))) bits s «out_len» (glyphs (now (run .entry)))) ⌝ }
+    requires { ⌜ OutFlaggable idx «out_len» s e (now first) (now second) ⌝ }
+    ensures { λ r. ⌜ Sided swapped (OutFlagged separate true (readLevel level) bits idx «out_len» s e) (now (first .entry)) (now (second .entry)) (now (first .exit)) (now (second .exit)) ⌝ }
 {
-    let m = flags::lesser(
-        sought_any(run, level, s, out_len),
-        sought_any(run, level, idx, e),
-    );
-    mark_any(run, level, m, bits, s, out_len);
-    mark_any(run, level, m, bits, idx, e);
+    let m = sought_out(first, second, swapped, separate, level, idx, out_len, s, e);
+    mark_by(first, second, output_second(swapped, separate), level, m, bits, s, out_len);
+    mark_by(first, second, swapped, level, m, bits, idx, e);
+}
+
+// Every glyph there.
+fn mark_all_by(
+    first: &mut [u32],
+    second: &mut [u32],
+    swapped: bool,
+    separate: bool,
+    level: u32,
+    bits: u32,
+    idx: usize,
+    out_len: usize,
+    s: usize,
+    e: usize,
+)
+    requires { ⌜ OutFlaggable idx «out_len» s e (now first) (now second) ⌝ }
+    ensures { λ r. ⌜ Sided swapped (OutFlagged separate false (readLevel level) bits idx «out_len» s e) (now (first .entry)) (now (second .entry)) (now (first .exit)) (now (second .exit)) ⌝ }
+{
+    flag_by(first, second, output_second(swapped, separate), false, level, bits, s, out_len);
+    flag_by(first, second, swapped, false, level, bits, idx, e);
+}
+
+// An outbuffer form.
+pub(crate) fn flag_out_by(
+    first: &mut [u32],
+    second: &mut [u32],
+    swapped: bool,
+    separate: bool,
+    interiorly: bool,
+    level: u32,
+    bits: u32,
+    idx: usize,
+    out_len: usize,
+    s: usize,
+    e: usize,
+)
+    requires { ⌜ OutFlaggable idx «out_len» s e (now first) (now second) ⌝ }
+    ensures { λ r. ⌜ Sided swapped (OutFlagged separate interiorly (readLevel level) bits idx «out_len» s e) (now (first .entry)) (now (second .entry)) (now (first .exit)) (now (second .exit)) ⌝ }
+{
+    if interiorly {
+        mark_out_by(first, second, swapped, separate, level, bits, idx, out_len, s, e);
+    } else {
+        mark_all_by(first, second, swapped, separate, level, bits, idx, out_len, s, e);
+    }
 }
