@@ -1,21 +1,22 @@
 -- `push` and `set_length`: a run of another length, on the account.
 use mathlib.Core.{Path._≡_, Path.refl, Path.sym, Path.ap, Path._∙_, Bool.Bool, Bool.true, Bool.false, Bool.false≢true, List.List, List.[], List._∷_, List._++_, List.append-nil}
-use Prim.Native.Nat.{ℕ, zero, suc, _+_, _-_, _≤_, _<_}
+use Prim.Native.Nat.{ℕ, zero, suc, _+_, _-_, _≤_, _<_, _^_}
 use native.Mathlib.Numerals.{add-one}
 use native.Mathlib.Omega.{arith}
 use lib.{ListN.length, ListN.take, ListN.drop, ListN.set, ListN.replicate, Seq.take-all, Seq.take-take, Seq.take-suc-set, Seq.drop-set-lt, Seq.length-take-le}
-use Rattle.records.specs.{Phase, Plain, Output, Positions, Spoiled, Position, Limits, WrongPhase, OverCapacity, Done, Value, No, Glyphs.Glyph, Glyphs.blank, Glyphs.zeroPosition, Counters.capacityOf, Counters.failed, Counters.grown, Ranges.copies, View.glyphs, View.placements, View.paired, View.wordsFrom}
-use Rattle.records.proofs.View.{length-glyphs, glyphs-same, placements-glyphs, length-paired, beyond-glyphs, beyond-placements, whole-same}
+use Rattle.records.specs.{Phase, Plain, Output, Positions, Spoiled, Position, Limits, Contradiction, WrongPhase, OverCapacity, Answer, Done, Value, No, Answers.said, Glyphs.Glyph, Glyphs.blank, Glyphs.zeroPosition, Counters.capacityOf, Counters.grown, Ranges.copies, View.glyphs, View.placements, View.paired, View.wordsFrom}
+use Rattle.records.proofs.View.{length-glyphs, glyphs-same, length-paired, beyond-glyphs, beyond-placements, whole-same}
 use Rattle.records.proofs.Pairs.{paired-take, paired-append}
-use Rattle.lists.specs.declared.{Buffer.Buffer, Reply.Reply, Room.the-variants.Fits, Room.the-variants.GivesUp, Room.the-variants.Over}
-use Rattle.lists.specs.{Account.readLevel, Account.Account, Account.positionsPhase, Account.spoiledPhase, Account.hasPositions, Account.len, Account.limiting, Account.sized, Account.failing, Account.withLimits, Account.withRest, Contract.MeetsIn, Filled.filled, Results.refused, Results.accepted, Results.answered, Results.refuse_when_else_, Results.needing, State.shown, State.goneOf, State.stateOf, State.accountOf, State.Held, State.roomFor, States.reply, States.atPlaces, States.withLimitsOf}
-use Rattle.lists.proofs.{Accounts.limits-of, Accounts.len-of, Accounts.fits-within, Accounts.needing-fits, Accounts.needing-gives-up, Accounts.needing-over, Calls.in-refused, Calls.in-accepted, Calls.in-answered, Filling.take-filled, Filling.drop-filled, Accounts.positions-of}
-use Rattle.edits.specs.{Fills.longerBuffer, Fills.Lengthened, WholeRun.notWhole, WholeRun.push, WholeRun.setLength, Wholes.WholeInput}
-use Rattle.lists.proofs.Inner.{limits-side, failing-of, held-failed}
+use Rattle.lists.specs.declared.{Buffer.Buffer, Verdict.Verdict, Room.Room, Room.the-variants.Fits, Room.the-variants.GivesUp, Room.the-variants.Over}
+use Rattle.lists.specs.{Account.readLevel, Account.Account, Account.positionsPhase, Account.spoiledPhase, Account.hasPositions, Account.len, Account.limiting, Account.sized, Account.failing, Account.withLimits, Account.withRest, Contract.isNo, Contract.MeetsIn, Filled.filled, Results.Result, Results.refused, Results.accepted, Results.answered, Results.refuse_when_else_, Results.needing, State.shown, State.goneOf, State.stateOf, State.accountOf, State.sound, State.Soundness, State.Held, State.roomFor, States.reply, States.atPlaces, States.withLimitsOf, Verdicts.Leaves, Verdicts.failedBuffer, Verdicts.settled, Verdicts.Decided}
+use Rattle.lists.proofs.{Accounts.limits-of, Accounts.len-of, Accounts.fits-within, Accounts.needing-fits, Calls.in-accepted, Calls.in-answered, Filling.take-filled, Filling.drop-filled, Accounts.positions-of, Inner.room-gives-up, Inner.room-over, CursorCalls.sound-len}
+use Rattle.lists.proofs.Decisions.{Near, near-placed, leaves-is, result, room-of, gives-up, decided-unsound, decided-refused, decided-accepted, decided-does}
+use Rattle.edits.specs.{Fills.longerBuffer, Fills.byLength, Fills.Lengthens, Fills.Puttable, Fills.Put, Fills.Pushes, Fills.Lengthened, Fills.SetsLength, WholeRun.notWhole, WholeRun.push, WholeRun.setLength, Wholes.WholeInput, Wholes.RunOf}
 use Rattle.edits.proofs.Holding.{behind-further, same-account}
 use Rattle.edits.proofs.Pairs.{paired-zeros}
 use Rattle.edits.proofs.Placings.{shown-positions}
-use Rattle.edits.proofs.WholeInputs.{wholeTest, not-not-whole, in-not-whole, whole-gone, account-whole, whole-lengths}
+use Rattle.edits.proofs.WholeInputs.{wholeTest, not-not-whole, whole-gone, account-whole, whole-lengths}
+use Rattle.edits.proofs.WholeCalls.{OnWhole, whole-refuses, lying-whole, sound-whole, places-fit}
 
 shown-plain : (p : Phase) (run other : List ℕ) → positionsPhase p ≡ false → spoiledPhase p ≡ false → shown p run other ≡ glyphs run
 unfolding shown
@@ -33,15 +34,15 @@ module _ {b : Buffer} {run other : List ℕ} (w : WholeInput b run other) where
   rest-is : (accountOf b run other) .rest ≡ take (b .len .0) (shown (b .phase) run other)
   rest-is = ap (λ (a : Account ℕ). a .rest) (account-whole w)
 
-  room-of : {t : _} (n : ℕ) → roomFor (capacityOf (length run)) n (b .limits) ≡ t → roomFor (capacityOf (length run)) n ((accountOf b run other) .state .limits) ≡ t
-  room-of n h = ap (roomFor (capacityOf (length run)) n) (limits-of b run other) ∙ h
-
   module _ (n : ℕ) (h : roomFor (capacityOf (length run)) n (b .limits) ≡ Fits) where
     pub size-within : n ≤ length (glyphs run)
     size-within =
         let e : length (glyphs run) ≡ capacityOf (length run) = length-glyphs run in
         let fit : n ≤ capacityOf (length run) = fits-within (capacityOf (length run)) n (b .limits) (omega (arith, w .held .all-in)) h in
         omega arith
+
+    room-fits : (x y : Result ℕ) → needing (capacityOf (length run)) n (accountOf b run other) x y ≡ x
+    room-fits x y = needing-fits _ _ (accountOf b run other) x y (ap (roomFor (capacityOf (length run)) n) (limits-of b run other) ∙ h)
 
     longer-held : Held (longerBuffer n b) run other
     unfolding longerBuffer atPlaces withLimitsOf grown
@@ -99,16 +100,52 @@ module _ {b : Buffer} {run other : List ℕ} (w : WholeInput b run other) where
           let m : ℕ = (longerBuffer n b) .limits .allocated in
           sym (beyond-placements m other other′ (whole-same run other (w .held .same) (w .held .whole)) (sym lo) (sym (behind-further n m (placements other) (placements other′) longer-size d)))
 
+-- ---- a verdict by the size
+module _ {capacity n : ℕ} {there short : Answer} {b : Buffer} {v : Verdict} {room : Room} (e : room ≡ roomFor capacity n (b .limits)) where
+  by-room : (k : Room) → room ≡ k → v ≡ byLength k n there short b → Lengthens capacity n there short b v
+  by-room k h q = record { is = rw (sym e ∙ h) q }
+
+  pub lengthens-fits : {x : Buffer} → room ≡ Fits → x ≡ longerBuffer n b → Leaves x true there v → Lengthens capacity n there short b v
+  lengthens-fits h ex w = by-room Fits h (rw ex at (w .is))
+
+  pub lengthens-fails : room ≡ GivesUp → Leaves (failedBuffer b) false short v → Lengthens capacity n there short b v
+  lengthens-fails h w = by-room GivesUp h (w .is)
+
+  pub lengthens-over : room ≡ Over → Leaves b false (No OverCapacity) v → Lengthens capacity n there short b v
+  lengthens-over h w = by-room Over h (w .is)
+
+-- a call that needs size n, and leaves a run of n glyphs where it is there
+record Needing (call : ℕ → Account ℕ → Result ℕ) (b : Buffer) (n : ℕ) (there short : Answer) (Ask : List ℕ → List ℕ → Type 0) (Act : (run other run′ other′ : List ℕ) → Type 0) : Type 0 where
+  then : (run other : List ℕ) → Result ℕ
+  sized : (run other : List ℕ) → WholeInput b run other → call (capacityOf (length run)) (accountOf b run other) ≡ needing (capacityOf (length run)) n (accountOf b run other) (then run other) (result short (failing (accountOf b run other)))
+  done : (run other run′ other′ : List ℕ) → WholeInput b run other → roomFor (capacityOf (length run)) n (b .limits) ≡ Fits → length run′ ≡ length run → length other′ ≡ length other → Act run other run′ other′ → MeetsIn call b run other (reply (longerBuffer n b) there) run′ other′
+  asked : (f s : List ℕ) → WholeInput b f s → n ≤ length (glyphs f) → Ask f s
+  plain : isNo (said short) ≡ false
+
+near-longer : (n : ℕ) (b : Buffer) → Near b (longerBuffer n b)
+unfolding longerBuffer
+near-longer n b = near-placed b _ _ _ _
+
+decided-lengthens : {call : ℕ → Account ℕ → Result ℕ} {b : Buffer} {f s : List ℕ} {v : Verdict} {m n : ℕ} {there short : Answer} {t : Bool} {Ask : List ℕ → List ℕ → Type 0} {Act : (run other run′ other′ : List ℕ) → Type 0}
+    → sound b f s ≡ true → t ≡ wholeTest b → t ≡ false → Needing call b n there short Ask Act → m ≡ capacityOf (length f) → Lengthens m n there short b v → Decided call b f s (settled b v) (v .acts) (Ask f s) Act
+decided-lengthens {call} {b} {f} {s} {v} {m} {n} {there} {short} {t} {Ask} {Act} h et k needs em w = by (roomFor (capacityOf (length f)) n (b .limits)) refl (rw em at (w .is))
+  where
+    by : (room : Room) → roomFor (capacityOf (length f)) n (b .limits) ≡ room → v ≡ byLength room n there short b → Decided call b f s (settled b v) (v .acts) (Ask f s) Act
+    by Fits q e = decided-does h (record {
+      near = near-longer n b;
+      none = λ c. absurd (false≢true (sym c));
+      law = λ run other run′ other′ l lr lo act. needs .done run other run′ other′ (lying-whole et k l) (room-of n l q) lr lo act;
+    }) (λ c. let whole = sound-whole h et k in needs .asked f s whole (size-within whole n q)) (leaves-is (longerBuffer n b) e)
+    by GivesUp q e = decided-accepted h (gives-up short (needs .plain) (λ run other l. needs .sized run other (lying-whole et k l) ∙ room-gives-up b run other (capacityOf (length run)) n _ _ (room-of n l q))) (leaves-is (failedBuffer b) e)
+    by Over q e = decided-refused h (record { law = λ run other l. needs .sized run other (lying-whole et k l) ∙ room-over b run other (capacityOf (length run)) n _ _ (room-of n l q) }) (leaves-is b e)
+
 -- ---- push
-pub push-room : {b : Buffer} {run other : List ℕ} (w : WholeInput b run other) → roomFor (capacityOf (length run)) (b .len .0 + 1) (b .limits) ≡ Fits → b .len .0 < length (glyphs run)
-push-room {b} w h = omega (arith, size-within w (b .len .0 + 1) h)
-
 module _ (g c : ℕ) where
-  module _ (capacity : ℕ) (a : Account ℕ) where
-    push-whole : notWhole a ≡ true → push capacity g c a ≡ refused WrongPhase
-    unfolding push refuse_when_else_
-    push-whole h = rw h
+  on-whole-push : OnWhole (λ capacity a. push capacity g c a)
+  unfolding push refuse_when_else_
+  on-whole-push = record { refuses = λ capacity a h. rw h }
 
+  module _ (capacity : ℕ) (a : Account ℕ) where
     push-placed : notWhole a ≡ false → hasPositions a ≡ true → push capacity g c a ≡ refused WrongPhase
     unfolding push refuse_when_else_
     push-placed h k = rw (h, k)
@@ -118,50 +155,61 @@ module _ (g c : ℕ) where
     unfolding push refuse_when_else_
     push-needs h k n e = rw (h, k, e)
 
-  pub push-not-whole : {b : Buffer} {run other : List ℕ} {r : Reply} {t : Bool} → Held b run other → t ≡ wholeTest b → t ≡ true → r ≡ reply b (No WrongPhase) → MeetsIn (λ capacity a. push capacity g c a) b run other r run other
-  push-not-whole {b} {run} {other} v et h er = in-not-whole v et h (push-whole (capacityOf (length run)) (accountOf b run other)) er
+  module _ {b : Buffer} {run other : List ℕ} (w : WholeInput b run other) (p : positionsPhase (b .phase) ≡ false) where
+    push-is : push (capacityOf (length run)) g c (accountOf b run other)
+        ≡ needing (capacityOf (length run)) (b .len .0 + 1) (accountOf b run other) (accepted (withRest ((accountOf b run other) .rest ++ copies (blank c) (g ∷ [])) (sized (b .len .0 + 1) (accountOf b run other)))) (accepted (failing (accountOf b run other)))
+    push-is = push-needs _ _ (not-not-whole w) (positions-of b run other ∙ p) (b .len .0) (len-of b run other (w .held) (w .clean))
 
-  module _ {b : Buffer} {run other : List ℕ} (w : WholeInput b run other) where
-    pub push-positions : {r : Reply} → positionsPhase (b .phase) ≡ true → r ≡ reply b (No WrongPhase) → MeetsIn (λ capacity a. push capacity g c a) b run other r run other
-    push-positions h er = in-refused WrongPhase (push-placed _ _ (not-not-whole w) (positions-of b run other ∙ h)) (w .held) er
+    module _ (h : roomFor (capacityOf (length run)) (b .len .0 + 1) (b .limits) ≡ Fits) (run′ : List ℕ) (e : glyphs run′ ≡ set (glyphs run) (b .len .0) (record { glyph = g; info = blank c })) where
+      push-rest : take (b .len .0 + 1) (shown (b .phase) run′ other) ≡ (accountOf b run other) .rest ++ copies (blank c) (g ∷ [])
+      unfolding copies
+      push-rest =
+          let n : ℕ = b .len .0 in
+          let x : Glyph ℕ = record { glyph = g; info = blank c } in
+          ap (take (n + 1)) (shown-plain (b .phase) run′ other p (w .clean) ∙ e)
+          ∙ (rw add-one (take-suc-set (glyphs run) n x (omega (arith, size-within w (n + 1) h)))
+          ∙ ap (λ (l : List (Glyph ℕ)). l ++ (x ∷ [])) (sym (rest-is w ∙ ap (take n) (shown-plain (b .phase) run other p (w .clean)))))
 
-    module _ (p : positionsPhase (b .phase) ≡ false) where
-      abbrev pushed : Account ℕ → Account ℕ
-      pushed a = withRest (a .rest ++ copies (blank c) (g ∷ [])) (sized (b .len .0 + 1) a)
+      push-done : length run′ ≡ length run → MeetsIn (λ capacity a. push capacity g c a) b run other (reply (longerBuffer (b .len .0 + 1) b) Done) run′ other
+      push-done lr =
+          let n : ℕ = b .len .0 + 1 in
+          let behind : drop n (glyphs run′) ≡ drop n (glyphs run) = ap (drop n) e ∙ drop-set-lt n (glyphs run) (b .len .0) _ (omega arith) in
+          in-accepted (longerBuffer n b) (longer-side w n h) (longer-beyond w n h run′ other lr refl behind) refl (longer-held w n h)
+          (push-is ∙ (room-fits w n h _ _ ∙ ap accepted (sym (longer-is w n h run′ other lr refl _ push-rest))))
+          refl
 
-      push-is : push (capacityOf (length run)) g c (accountOf b run other)
-          ≡ needing (capacityOf (length run)) (b .len .0 + 1) (accountOf b run other) (accepted (pushed (accountOf b run other))) (accepted (failing (accountOf b run other)))
-      push-is = push-needs _ _ (not-not-whole w) (positions-of b run other ∙ p) (b .len .0) (len-of b run other (w .held) (w .clean))
+  push-needing : {b : Buffer} → positionsPhase (b .phase) ≡ false → Needing (λ capacity a. push capacity g c a) b (b .len .0 + 1) Done Done (Puttable (b .len .0)) (Put (b .len .0) g c)
+  push-needing {b} p = record {
+    then = _;
+    sized = λ run other w. push-is w p;
+    done = λ run other run′ other′ w h lr lo act. rw (act .other-is) (push-done w p h run′ (act .run-is) lr);
+    asked = λ f s w k. let same : length (glyphs f) ≡ length (glyphs s) = glyphs-same f s (w .held .same) in record { in-first = omega arith; in-second = omega arith };
+    plain = refl;
+  }
 
-      pub push-over : {r : Reply} → roomFor (capacityOf (length run)) (b .len .0 + 1) (b .limits) ≡ Over → r ≡ reply b (No OverCapacity) → MeetsIn (λ capacity a. push capacity g c a) b run other r run other
-      push-over h er = in-refused OverCapacity (push-is ∙ needing-over _ _ (accountOf b run other) _ _ (room-of w (b .len .0 + 1) h)) (w .held) er
+module _ {b : Buffer} {f s : List ℕ} {v : Verdict} where
+  pub push-unsound : sound b f s ≡ false → Leaves b false (No Contradiction) v → Pushes b f s v
+  push-unsound h w = record { is = λ g c. decided-unsound h w }
 
-      pub push-gives-up : {r : Reply} {l : Limits} {f : Buffer} → roomFor (capacityOf (length run)) (b .len .0 + 1) (b .limits) ≡ GivesUp → l ≡ failed (b .limits) → f ≡ withLimitsOf l b → r ≡ reply f Done
-          → MeetsIn (λ capacity a. push capacity g c a) b run other r run other
-      push-gives-up h el ef er =
-          in-accepted (withLimitsOf (failed (b .limits)) b) (limits-side (failed (b .limits)) b) refl refl (held-failed b run other (w .held))
-          (push-is ∙ (needing-gives-up _ _ (accountOf b run other) _ _ (room-of w (b .len .0 + 1) h) ∙ ap accepted (sym (failing-of b run other))))
-          (er ∙ ap (λ (k : Buffer). reply k Done) (ef ∙ ap (λ (k : Limits). withLimitsOf k b) el))
+  module _ {t : Bool} (h : sound b f s ≡ true) (et : t ≡ wholeTest b) where
+    pub push-not-whole : t ≡ true → Leaves b false (No WrongPhase) v → Pushes b f s v
+    push-not-whole k w = record { is = λ g c. decided-refused h (whole-refuses (on-whole-push g c) et k) w }
 
-      module _ (h : roomFor (capacityOf (length run)) (b .len .0 + 1) (b .limits) ≡ Fits) where
-        push-rest : (run′ : List ℕ) (x : Glyph ℕ) → x ≡ record { glyph = g; info = blank c } → glyphs run′ ≡ set (glyphs run) (b .len .0) x
-            → take (b .len .0 + 1) (shown (b .phase) run′ other) ≡ (accountOf b run other) .rest ++ copies (blank c) (g ∷ [])
-        unfolding copies
-        push-rest run′ x ex e =
-            let n : ℕ = b .len .0 in
-            ap (take (n + 1)) (shown-plain (b .phase) run′ other p (w .clean) ∙ e)
-            ∙ (rw add-one (take-suc-set (glyphs run) n x (push-room w h))
-            ∙ (ap (λ (y : Glyph ℕ). take n (glyphs run) ++ (y ∷ [])) ex
-            ∙ ap (λ (l : List (Glyph ℕ)). l ++ (record { glyph = g; info = blank c } ∷ [])) (sym (rest-is w ∙ ap (take n) (shown-plain (b .phase) run other p (w .clean))))))
+    module _ (k : t ≡ false) where
+      pub push-positions : positionsPhase (b .phase) ≡ true → Leaves b false (No WrongPhase) v → Pushes b f s v
+      push-positions p w = record { is = λ g c. decided-refused h (record { law = λ run other l. push-placed g c _ _ (not-not-whole (lying-whole et k l)) (positions-of b run other ∙ p) }) w }
 
-        pub push-done : {r : Reply} {f : Buffer} {run′ : List ℕ} {x : Glyph ℕ} → x ≡ record { glyph = g; info = blank c } → glyphs run′ ≡ set (glyphs run) (b .len .0) x → length run′ ≡ length run
-            → f ≡ longerBuffer (b .len .0 + 1) b → r ≡ reply f Done → MeetsIn (λ capacity a. push capacity g c a) b run other r run′ other
-        push-done {r} {f} {run′} {x} ex e lr ef er =
-            let n : ℕ = b .len .0 + 1 in
-            let behind : drop n (glyphs run′) ≡ drop n (glyphs run) = ap (drop n) e ∙ drop-set-lt n (glyphs run) (b .len .0) x (omega arith) in
-            in-accepted (longerBuffer n b) (longer-side w n h) (longer-beyond w n h run′ other lr refl behind) refl (longer-held w n h)
-            (push-is ∙ (needing-fits _ _ (accountOf b run other) _ _ (room-of w n h) ∙ ap accepted (sym (longer-is w n h run′ other lr refl _ (push-rest run′ x ex e)))))
-            (er ∙ ap (λ (k : Buffer). reply k Done) ef)
+      pub push-ahead : {m : ℕ} → positionsPhase (b .phase) ≡ false → m ≡ capacityOf (length f) → Lengthens m (b .len .0 + 1) Done Done b v → Pushes b f s v
+      push-ahead p em w = record { is = λ g c. decided-lengthens h et k (push-needing g c p) em w }
+
+  pub push-asked : Pushes b f s v → v .acts ≡ true → Puttable (b .len .0) f s
+  push-asked w t = w .is 0 0 .asked t
+
+pub push-size : {b : Buffer} {f s : List ℕ} {t : Bool} → Soundness b f s t → t ≡ true → b .len .0 + 1 < 2 ^ 64
+push-size w h = omega (arith, sound-len w h)
+
+pub was-put : {run other run′ : List ℕ} {at number cluster : ℕ} {x : Glyph ℕ} → x ≡ record { glyph = number; info = blank cluster } → glyphs run′ ≡ set (glyphs run) at x → Put at number cluster run other run′ other
+was-put {run} {other} {run′} {at} ex e = record { run-is = e ∙ ap (set (glyphs run) at) ex; other-is = refl }
 
 -- ---- zeros behind the run
 copies-zeros : (n : ℕ) → copies {G = ℕ} (blank 0) (replicate n 0) ≡ replicate n (record { glyph = 0; info = blank 0 })
@@ -169,48 +217,43 @@ unfolding copies
 copies-zeros zero = refl
 copies-zeros (suc n) = ap {B = List (Glyph ℕ)} (λ r. record { glyph = 0; info = blank 0 } ∷ r) (copies-zeros n)
 
-module _ {b : Buffer} {n : ℕ} {run other : List ℕ} (w : WholeInput b run other) (fits : n ≤ length (glyphs run)) where
-  pub lengthened-short : n ≤ b .len .0 → Lengthened b n run other run other
+module _ {phase : Phase} {m n : ℕ} {run other : List ℕ} (w : RunOf phase n run other) where
+  pub lengthened-short : n ≤ m → Lengthened phase m n run other run other
   unfolding copies
   lengthened-short o =
-      let z : n - b .len .0 ≡ 0 = omega arith in
-      let l : List (Glyph ℕ) = shown (b .phase) run other in
-      record { is = rw z (sym (append-nil (take n (take (b .len .0) l)) ∙ take-take n (b .len .0) l o)); behind = refl; other-behind = refl }
+      let z : n - m ≡ 0 = omega arith in
+      let l : List (Glyph ℕ) = shown phase run other in
+      record { is = rw z (sym (append-nil (take n (take m l)) ∙ take-take n m l o)); behind = refl; other-behind = refl }
 
-  module _ (o : b .len .0 < n) where
-    pub zero-room : (b .len .0 ≤ n) × (n ≤ length (glyphs run))
-    zero-room = (omega arith, fits)
+  module _ (o : m < n) where
+    fits : n ≤ length (glyphs run)
+    fits = w .fits
 
     other-fits : n ≤ length (placements other)
-    other-fits =
-        let same : length (glyphs run) ≡ length (glyphs other) = glyphs-same run other (w .held .same) in
-        omega (arith, placements-glyphs other)
-
-    pub zero-positions-room : (b .len .0 ≤ n) × (n ≤ length (placements other))
-    zero-positions-room = (omega arith, other-fits)
+    other-fits = places-fit w
 
     -- all of the run is kept
-    kept : (l : List (Glyph ℕ)) → n ≤ length l → take n (take (b .len .0) l) ≡ take (b .len .0) l
-    kept l q = let k : length (take (b .len .0) l) ≡ b .len .0 = length-take-le (b .len .0) l (omega arith) in take-all n (take (b .len .0) l) (omega arith)
+    kept : (l : List (Glyph ℕ)) → n ≤ length l → take n (take m l) ≡ take m l
+    kept l q = let k : length (take m l) ≡ m = length-take-le m l (omega arith) in take-all n (take m l) (omega arith)
 
-    module _ (run′ : List ℕ) (e : glyphs run′ ≡ filled (record { glyph = 0; info = blank 0 }) (b .len .0) n (glyphs run)) where
-      zeros-first : take n (glyphs run′) ≡ take (b .len .0) (glyphs run) ++ replicate (n - b .len .0) (record { glyph = 0; info = blank 0 })
-      zeros-first = ap (take n) e ∙ take-filled (record { glyph = 0; info = blank 0 }) (b .len .0) n (glyphs run) (omega arith) fits
+    module _ (run′ : List ℕ) (e : glyphs run′ ≡ filled (record { glyph = 0; info = blank 0 }) m n (glyphs run)) where
+      zeros-first : take n (glyphs run′) ≡ take m (glyphs run) ++ replicate (n - m) (record { glyph = 0; info = blank 0 })
+      zeros-first = ap (take n) e ∙ take-filled (record { glyph = 0; info = blank 0 }) m n (glyphs run) (omega arith) fits
 
       zeros-behind : drop n (glyphs run′) ≡ drop n (glyphs run)
-      zeros-behind = ap (drop n) e ∙ drop-filled (record { glyph = 0; info = blank 0 }) (b .len .0) n (glyphs run) (omega arith) fits n (omega arith)
+      zeros-behind = ap (drop n) e ∙ drop-filled (record { glyph = 0; info = blank 0 }) m n (glyphs run) (omega arith) fits n (omega arith)
 
-      pub lengthened-plain : positionsPhase (b .phase) ≡ false → Lengthened b n run other run′ other
+      pub lengthened-plain : positionsPhase phase ≡ false → Lengthened phase m n run other run′ other
       lengthened-plain p =
           record {
-            is = rw (shown-plain (b .phase) run′ other p (w .clean), shown-plain (b .phase) run other p (w .clean), kept (glyphs run) fits, copies-zeros (n - b .len .0)) zeros-first;
+            is = rw (shown-plain phase run′ other p (w .clean), shown-plain phase run other p (w .clean), kept (glyphs run) fits, copies-zeros (n - m)) zeros-first;
             behind = zeros-behind;
             other-behind = refl;
           }
 
-      pub lengthened-positions : {other′ : List ℕ} → positionsPhase (b .phase) ≡ true → placements other′ ≡ filled zeroPosition (b .len .0) n (placements other) → Lengthened b n run other run′ other′
+      pub lengthened-positions : {other′ : List ℕ} → positionsPhase phase ≡ true → placements other′ ≡ filled zeroPosition m n (placements other) → Lengthened phase m n run other run′ other′
       lengthened-positions {other′} p eo =
-          let m : ℕ = b .len .0 in
+          let m : ℕ = m in
           let ps : List Position = placements other in
           let lm : length (take m (glyphs run)) ≡ m = length-take-le m (glyphs run) (omega arith) in
           let lp : length (take m ps) ≡ m = length-take-le m ps (omega (arith, other-fits)) in
@@ -222,50 +265,54 @@ module _ {b : Buffer} {n : ℕ} {run other : List ℕ} (w : WholeInput b run oth
           ∙ (paired-append (take m (glyphs run)) (replicate (n - m) (record { glyph = 0; info = blank 0 })) (take m ps) (replicate (n - m) zeroPosition) (lm ∙ sym lp)
           ∙ rw (paired-zeros (n - m), paired-take m (glyphs run) ps)))) in
           record {
-            is = rw (shown-positions (b .phase) run′ other′ p, shown-positions (b .phase) run other p, kept (paired (glyphs run) ps) (rw (length-paired (glyphs run) ps) fits), copies-zeros (n - m)) pairs;
+            is = rw (shown-positions phase run′ other′ p, shown-positions phase run other p, kept (paired (glyphs run) ps) (rw (length-paired (glyphs run) ps) fits), copies-zeros (n - m)) pairs;
             behind = zeros-behind;
             other-behind = ap (drop n) eo ∙ drop-filled zeroPosition m n ps (omega arith) other-fits n (omega arith);
           }
 
 -- ---- set_length
 module _ (n : ℕ) where
-  module _ (capacity : ℕ) (a : Account ℕ) where
-    length-whole : notWhole a ≡ true → setLength 0 capacity n a ≡ refused WrongPhase
-    unfolding setLength refuse_when_else_
-    length-whole h = rw h
+  on-whole-length : OnWhole (λ capacity a. setLength 0 capacity n a)
+  unfolding setLength refuse_when_else_
+  on-whole-length = record { refuses = λ capacity a h. rw h }
 
-    length-needs : notWhole a ≡ false → (m : ℕ) → len a ≡ m
-        → setLength 0 capacity n a ≡ needing capacity n a (answered 1 (withRest (take n (a .rest) ++ copies (blank 0) (replicate (n - m) 0)) (sized n a))) (answered 0 (failing a))
-    unfolding setLength refuse_when_else_
-    length-needs h m e = rw (h, e)
-
-  pub length-not-whole : {b : Buffer} {run other : List ℕ} {r : Reply} {t : Bool} → Held b run other → t ≡ wholeTest b → t ≡ true → r ≡ reply b (No WrongPhase) → MeetsIn (λ capacity a. setLength 0 capacity n a) b run other r run other
-  length-not-whole {b} {run} {other} v et h er = in-not-whole v et h (length-whole (capacityOf (length run)) (accountOf b run other)) er
+  length-needs : (capacity : ℕ) (a : Account ℕ) → notWhole a ≡ false → (m : ℕ) → len a ≡ m
+      → setLength 0 capacity n a ≡ needing capacity n a (answered 1 (withRest (take n (a .rest) ++ copies (blank 0) (replicate (n - m) 0)) (sized n a))) (answered 0 (failing a))
+  unfolding setLength refuse_when_else_
+  length-needs capacity a h m e = rw (h, e)
 
   module _ {b : Buffer} {run other : List ℕ} (w : WholeInput b run other) where
-    abbrev lengthened : Account ℕ → Account ℕ
-    lengthened a = withRest (take n (a .rest) ++ copies (blank 0) (replicate (n - b .len .0) 0)) (sized n a)
-
     length-is : setLength 0 (capacityOf (length run)) n (accountOf b run other)
-        ≡ needing (capacityOf (length run)) n (accountOf b run other) (answered 1 (lengthened (accountOf b run other))) (answered 0 (failing (accountOf b run other)))
+        ≡ needing (capacityOf (length run)) n (accountOf b run other) (answered 1 (withRest (take n ((accountOf b run other) .rest) ++ copies (blank 0) (replicate (n - b .len .0) 0)) (sized n (accountOf b run other)))) (answered 0 (failing (accountOf b run other)))
     length-is = length-needs _ _ (not-not-whole w) (b .len .0) (len-of b run other (w .held) (w .clean))
 
-    pub length-over : {r : Reply} → roomFor (capacityOf (length run)) n (b .limits) ≡ Over → r ≡ reply b (No OverCapacity) → MeetsIn (λ capacity a. setLength 0 capacity n a) b run other r run other
-    length-over h er = in-refused OverCapacity (length-is ∙ needing-over _ _ (accountOf b run other) _ _ (room-of w n h)) (w .held) er
-
-    pub length-gives-up : {r : Reply} {l : Limits} {f : Buffer} → roomFor (capacityOf (length run)) n (b .limits) ≡ GivesUp → l ≡ failed (b .limits) → f ≡ withLimitsOf l b → r ≡ reply f (Value 0)
-        → MeetsIn (λ capacity a. setLength 0 capacity n a) b run other r run other
-    length-gives-up h el ef er =
-        in-answered (withLimitsOf (failed (b .limits)) b) (limits-side (failed (b .limits)) b) refl refl (held-failed b run other (w .held)) 0
-        (length-is ∙ (needing-gives-up _ _ (accountOf b run other) _ _ (room-of w n h) ∙ ap (answered 0) (sym (failing-of b run other))))
-        (er ∙ ap (λ (k : Buffer). reply k (Value 0)) (ef ∙ ap (λ (k : Limits). withLimitsOf k b) el))
-
-    pub length-done : {r : Reply} {run′ other′ : List ℕ} {f : Buffer} → roomFor (capacityOf (length run)) n (b .limits) ≡ Fits → length run′ ≡ length run → length other′ ≡ length other
-        → Lengthened b n run other run′ other′ → f ≡ longerBuffer n b → r ≡ reply f (Value 1) → MeetsIn (λ capacity a. setLength 0 capacity n a) b run other r run′ other′
-    length-done {r} {run′} {other′} h lr lo x ef er =
+    length-done : {run′ other′ : List ℕ} → roomFor (capacityOf (length run)) n (b .limits) ≡ Fits → length run′ ≡ length run → length other′ ≡ length other
+        → Lengthened (b .phase) (b .len .0) n run other run′ other′ → MeetsIn (λ capacity a. setLength 0 capacity n a) b run other (reply (longerBuffer n b) (Value 1)) run′ other′
+    length-done {run′} {other′} h lr lo x =
         let more : List (Glyph ℕ) = copies (blank 0) (replicate (n - b .len .0) 0) in
         in-answered (longerBuffer n b) (longer-side w n h) (longer-beyond w n h run′ other′ lr lo (x .behind)) (other-beyond w n h run′ other′ lr lo (x .other-behind)) (longer-held w n h) 1
-        (length-is
-        ∙ (needing-fits _ _ (accountOf b run other) _ _ (room-of w n h)
-        ∙ ap (answered 1) (sym (longer-is w n h run′ other′ lr lo _ (x .is ∙ ap (λ (l : List (Glyph ℕ)). take n l ++ more) (sym (rest-is w)))))))
-        (er ∙ ap (λ (k : Buffer). reply k (Value 1)) ef)
+        (length-is ∙ (room-fits w n h _ _ ∙ ap (answered 1) (sym (longer-is w n h run′ other′ lr lo _ (x .is ∙ ap (λ (l : List (Glyph ℕ)). take n l ++ more) (sym (rest-is w)))))))
+        refl
+
+  length-needing : (b : Buffer) → Needing (λ capacity a. setLength 0 capacity n a) b n (Value 1) (Value 0) (RunOf (b .phase) n) (Lengthened (b .phase) (b .len .0) n)
+  length-needing b = record {
+    then = _;
+    sized = λ run other w. length-is w;
+    done = λ run other run′ other′ w h lr lo act. length-done w h lr lo act;
+    asked = λ f s w k. record { clean = w .clean; fits = k; same = w .held .same };
+    plain = refl;
+  }
+
+module _ {n : ℕ} {b : Buffer} {f s : List ℕ} {v : Verdict} where
+  pub length-unsound : sound b f s ≡ false → Leaves b false (No Contradiction) v → SetsLength n b f s v
+  length-unsound h w = record { is = decided-unsound h w }
+
+  module _ {t : Bool} (h : sound b f s ≡ true) (et : t ≡ wholeTest b) where
+    pub length-not-whole : t ≡ true → Leaves b false (No WrongPhase) v → SetsLength n b f s v
+    length-not-whole k w = record { is = decided-refused h (whole-refuses (on-whole-length n) et k) w }
+
+    pub length-ahead : {m : ℕ} → t ≡ false → m ≡ capacityOf (length f) → Lengthens m n (Value 1) (Value 0) b v → SetsLength n b f s v
+    length-ahead k em w = record { is = decided-lengthens h et k (length-needing n b) em w }
+
+  pub length-asked : SetsLength n b f s v → v .acts ≡ true → RunOf (b .phase) n f s
+  length-asked w t = w .is .asked t

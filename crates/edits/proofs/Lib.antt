@@ -40,5 +40,6 @@ pub mod Siftings
 pub mod SortCalls
 pub mod Sorts
 pub mod TurnParts
+pub mod WholeCalls
 pub mod WholeInputs
 pub mod Writings

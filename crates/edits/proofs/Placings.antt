@@ -4,12 +4,12 @@ use Prim.Native.Nat.{ℕ, suc, _≤_, _<_, zero-le}
 use native.Mathlib.Omega.{arith}
 use borrow.Author.Tests.{le-leb, lt-leb}
 use lib.{Dec.leb, ListN.length, ListN.take, ListN.drop, ListN.getD, ListN.set, Seq.drop-set-lt}
-use Rattle.records.specs.{Phase, Plain, Output, Positions, Spoiled, InputPlace, Position, WrongPhase, OutOfRange, Done, No, Glyphs.Glyph, Glyphs.Info, Glyphs.zeroPosition, Ranges.edit, View.glyphs, View.placements, View.paired, View.wordsFrom}
+use Rattle.records.specs.{Phase, Plain, Output, Positions, Spoiled, InputPlace, Position, Contradiction, WrongPhase, OutOfRange, Done, No, Glyphs.Glyph, Glyphs.Info, Glyphs.zeroPosition, Ranges.edit, View.glyphs, View.placements, View.paired, View.wordsFrom}
 use Rattle.records.proofs.View.{glyphs-same, placements-glyphs, length-paired, beyond-placements, whole-same}
-use Rattle.lists.specs.declared.{Buffer.Buffer, Reply.Reply}
-use Rattle.lists.specs.{Account.Account, Account.State, Account.outputPhase, Account.positionsPhase, Account.spoiledPhase, Account.hasPositions, Account.input, Account.len, Account.withInput, Account.withLimits, Contract.MeetsIn, Results.refused, Results.accepted, Results.refuse_when_else_, State.shown, State.goneOf, State.stateOf, State.accountOf, State.Held, States.reply, States.withLimitsOf}
-use Rattle.lists.proofs.{Accounts.len-of, Calls.in-refused, Calls.in-accepted, Accounts.positions-of}
-use Rattle.edits.specs.{Fills.repositioned, Holding.holds, WholeRun.placed, WholeRun.place}
+use Rattle.lists.specs.declared.{Buffer.Buffer, Verdict.Verdict}
+use Rattle.lists.specs.{Account.Account, Account.State, Account.outputPhase, Account.positionsPhase, Account.spoiledPhase, Account.hasPositions, Account.input, Account.len, Account.withInput, Account.withLimits, Contract.MeetsIn, Results.refused, Results.accepted, Results.refuse_when_else_, State.shown, State.goneOf, State.stateOf, State.accountOf, State.sound, State.Held, States.reply, States.withLimitsOf, Verdicts.Leaves}
+use Rattle.lists.proofs.{Accounts.len-of, Accounts.sound-held, Accounts.held-turned, Accounts.positions-of, Calls.in-accepted, Decisions.near-same, Decisions.decided-unsound, Decisions.decided-refused, Decisions.decided-does}
+use Rattle.edits.specs.{Fills.repositioned, Fills.Placeable, Fills.Placed, Fills.Places, Holding.holds, WholeRun.placed, WholeRun.place}
 use Rattle.lists.proofs.Outputs.{goneIn}
 use Rattle.edits.proofs.Bridge.{input-is, holds-input}
 use Rattle.edits.proofs.Holding.{edit-take}
@@ -90,31 +90,53 @@ module _ (i : InputPlace) (xa ya xo yo : ℕ) where
     unfolding place refuse_when_else_
     place-inside h k = rw (h, k)
 
-  module _ {b : Buffer} {run other : List ℕ} {r : Reply} (v : Held b run other) where
-    pub in-unplaced : positionsPhase (b .phase) ≡ false → r ≡ reply b (No WrongPhase) → MeetsIn (λ capacity a. place i xa ya xo yo a) b run other r run other
-    in-unplaced h er = in-refused WrongPhase (place-none _ (positions-of b run other ∙ h)) v er
+  module _ {b : Buffer} {run other : List ℕ} (v : Held b run other) (h : positionsPhase (b .phase) ≡ true) where
+    place-beyond : b .len .0 ≤ i .0 → place i xa ya xo yo (accountOf b run other) ≡ refused OutOfRange
+    place-beyond k = place-outside _ (positions-of b run other ∙ h) (ap (λ (n : ℕ). leb n (i .0)) (length-is v h) ∙ le-leb (b .len .0) (i .0) k)
 
-    module _ (h : positionsPhase (b .phase) ≡ true) where
-      pub in-misplaced : b .len .0 ≤ i .0 → r ≡ reply b (No OutOfRange) → MeetsIn (λ capacity a. place i xa ya xo yo a) b run other r run other
-      in-misplaced k er = in-refused OutOfRange (place-outside _ (positions-of b run other ∙ h) (ap (λ (n : ℕ). leb n (i .0)) (length-is v h) ∙ le-leb (b .len .0) (i .0) k)) v er
+    place-done : {other′ : List ℕ} → i .0 < b .len .0 → length other′ ≡ length other → placements other′ ≡ set (placements other) (i .0) (repositioned xa ya xo yo (getD (placements other) (i .0) zeroPosition))
+        → MeetsIn (λ capacity a. place i xa ya xo yo a) b run other (reply b Done) run other′
+    place-done {other′} k lo e =
+        let n : ℕ = b .limits .allocated in
+        let gs : List (Glyph ℕ) = glyphs run in
+        let ps : List Position = placements other in
+        let room : i .0 < length gs = omega (arith, v .len-in, v .all-in) in
+        let fits : b .len .0 ≤ length (paired gs ps) = rw (length-paired gs ps) (omega (arith, v .len-in, v .all-in)) in
+        let pairs : paired gs (placements other′) ≡ edit (i .0) (suc (i .0)) (placed xa ya xo yo) (paired gs ps) =
+        ap (paired gs) e ∙ paired-placed xa ya xo yo (i .0) gs ps room (placed-room v h (i .0) k) in
+        let behind : wordsFrom n other ≡ wordsFrom n other′ =
+        beyond-placements n other other′ (whole-same run other (v .same) (v .whole)) (sym lo) (sym (ap (drop n) e ∙ drop-set-lt n ps (i .0) _ (omega (arith, v .len-in)))) in
+        in-accepted b refl refl (sym behind) v
+        (place-inside _ (positions-of b run other ∙ h) (ap (λ (m : ℕ). leb m (i .0)) (length-is v h) ∙ lt-leb (b .len .0) (i .0) k)
+        ∙ ap accepted
+        (sym
+        (account-as v h other′
+        ∙ (one-edited (placed xa ya xo yo) (paired gs ps) (paired gs (placements other′)) (withLimits (b .limits) (stateOf b)) (v .idx-in) fits k pairs
+        ∙ ap (λ (a : Account ℕ). withInput (edit (i .0) (suc (i .0)) (placed xa ya xo yo) (input a)) a) (sym (account-as v h other))))))
+        refl
 
-      pub in-placed : {other′ : List ℕ} → i .0 < b .len .0 → length other′ ≡ length other → placements other′ ≡ set (placements other) (i .0) (repositioned xa ya xo yo (getD (placements other) (i .0) zeroPosition))
-          → r ≡ reply b Done → MeetsIn (λ capacity a. place i xa ya xo yo a) b run other r run other′
-      in-placed {other′} k lo e er =
-          let n : ℕ = b .limits .allocated in
-          let gs : List (Glyph ℕ) = glyphs run in
-          let ps : List Position = placements other in
-          let room : i .0 < length gs = omega (arith, v .len-in, v .all-in) in
-          let fits : b .len .0 ≤ length (paired gs ps) = rw (length-paired gs ps) (omega (arith, v .len-in, v .all-in)) in
-          let pairs : paired gs (placements other′) ≡ edit (i .0) (suc (i .0)) (placed xa ya xo yo) (paired gs ps) =
-          ap (paired gs) e ∙ paired-placed xa ya xo yo (i .0) gs ps room (placed-room v h (i .0) k) in
-          let behind : wordsFrom n other ≡ wordsFrom n other′ =
-          beyond-placements n other other′ (whole-same run other (v .same) (v .whole)) (sym lo) (sym (ap (drop n) e ∙ drop-set-lt n ps (i .0) _ (omega (arith, v .len-in)))) in
-          in-accepted b refl refl (sym behind) v
-          (place-inside _ (positions-of b run other ∙ h) (ap (λ (m : ℕ). leb m (i .0)) (length-is v h) ∙ lt-leb (b .len .0) (i .0) k)
-          ∙ ap accepted
-          (sym
-          (account-as v h other′
-          ∙ (one-edited (placed xa ya xo yo) (paired gs ps) (paired gs (placements other′)) (withLimits (b .limits) (stateOf b)) (v .idx-in) fits k pairs
-          ∙ ap (λ (a : Account ℕ). withInput (edit (i .0) (suc (i .0)) (placed xa ya xo yo) (input a)) a) (sym (account-as v h other))))))
-          er
+-- ---- its verdict
+module _ {i : InputPlace} {b : Buffer} {f s : List ℕ} {v : Verdict} where
+  pub place-unsound : sound b f s ≡ false → Leaves b false (No Contradiction) v → Places i b f s v
+  place-unsound h w = record { is = λ xa ya xo yo. decided-unsound h w }
+
+  module _ (h : sound b f s ≡ true) where
+    pub place-unplaced : positionsPhase (b .phase) ≡ false → Leaves b false (No WrongPhase) v → Places i b f s v
+    place-unplaced p w = record { is = λ xa ya xo yo. decided-refused h (record { law = λ run other l. place-none i xa ya xo yo _ (positions-of b run other ∙ p) }) w }
+
+    module _ (p : positionsPhase (b .phase) ≡ true) where
+      pub place-behind : b .len .0 ≤ i .0 → Leaves b false (No OutOfRange) v → Places i b f s v
+      place-behind k w = record { is = λ xa ya xo yo. decided-refused h (record { law = λ run other l. place-beyond i xa ya xo yo (l .held) p k }) w }
+
+      pub place-ahead : i .0 < b .len .0 → Leaves b true Done v → Places i b f s v
+      place-ahead k w = record { is = λ xa ya xo yo. decided-does h (record {
+        near = near-same b;
+        none = λ c. absurd (false≢true (sym c));
+        law = λ run other run′ other′ l lr lo act. rw (act .run-is) (place-done i xa ya xo yo (l .held) p k lo (act .other-is));
+      }) (λ c. let u = sound-held b f s h in record { in-first = placed-room (held-turned b f s u) p (i .0) k; in-second = placed-room u p (i .0) k }) w }
+
+  pub place-asked : Places i b f s v → v .acts ≡ true → Placeable (i .0) f s
+  place-asked w t = w .is 0 0 0 0 .asked t
+
+pub was-placed : {i xa ya xo yo : ℕ} {run other other′ : List ℕ} → placements other′ ≡ set (placements other) i (repositioned xa ya xo yo (getD (placements other) i zeroPosition)) → Placed i xa ya xo yo run other run other′
+was-placed e = record { run-is = refl; other-is = e }

@@ -1,21 +1,57 @@
--- What the functions below `push`, `set_length` and `place` leave.
-use mathlib.Core.{Path._≡_, List.List, List._++_}
-use Prim.Native.Nat.{ℕ, _-_}
-use lib.ListN.{take, drop, replicate}
-use Rattle.records.specs.{Position, Counters.grown, Glyphs.blank, Ranges.copies, View.glyphs, View.placements}
-use Rattle.lists.specs.declared.{Buffer.Buffer}
-use Rattle.lists.specs.{State.shown, States.atPlaces, States.withLimitsOf}
+-- What `push`, `set_length` and `place` come to, and what the functions below them leave.
+use mathlib.Core.{Path._≡_, Bool.true, Bool.false, List.List, List._++_}
+use Prim.Native.Nat.{ℕ, _-_, _<_}
+use lib.ListN.{length, take, drop, replicate, getD, set}
+use Rattle.records.specs.{Phase, InputPlace, Position, OverCapacity, Answer, No, Counters.grown, Glyphs.blank, Glyphs.zeroPosition, Ranges.copies, View.glyphs, View.placements}
+use Rattle.lists.specs.declared.{Buffer.Buffer, Verdict.Verdict, Room.Room, Room.the-variants.Fits, Room.the-variants.GivesUp, Room.the-variants.Over}
+use Rattle.lists.specs.{State.shown, State.roomFor, States.atPlaces, States.withLimitsOf, Verdicts.leaving, Verdicts.failedBuffer, Verdicts.settled, Verdicts.Decided}
+use Rattle.edits.specs.{WholeRun.push, WholeRun.setLength, WholeRun.place, Wholes.RunOf}
 
 -- a run of n glyphs, and the size for them
 unfoldable pub longerBuffer : ℕ → Buffer → Buffer
 longerBuffer n b = atPlaces (b .idx .0) n (b .«out_len» .0) (withLimitsOf (grown n (b .limits)) b)
 
--- the first n glyphs of the run, with zeros for those that it does not have
-pub record Lengthened (b : Buffer) (n : ℕ) (run other run′ other′ : List ℕ) : Type 0 where
-  pub is : take n (shown (b .phase) run′ other′) ≡ take n (take (b .len .0) (shown (b .phase) run other)) ++ copies (blank 0) (replicate (n - b .len .0) 0)
+-- the run gets n glyphs, by what was found of their size
+abbrev pub byLength : Room → ℕ → (there short : Answer) → Buffer → Verdict
+byLength room n there short b = elim room [ Fits ↦ leaving (longerBuffer n b) true there | GivesUp ↦ leaving (failedBuffer b) false short | Over ↦ leaving b false (No OverCapacity) ]
+
+pub record Lengthens (capacity n : ℕ) (there short : Answer) (b : Buffer) (v : Verdict) : Type 0 where
+  pub is : v ≡ byLength (roomFor capacity n (b .limits)) n there short b
+
+-- ---- push
+pub record Puttable (at : ℕ) (f s : List ℕ) : Type 0 where
+  pub in-first : at < length (glyphs f)
+  pub in-second : at < length (glyphs s)
+
+pub record Put (at number cluster : ℕ) (run other run′ other′ : List ℕ) : Type 0 where
+  pub run-is : glyphs run′ ≡ set (glyphs run) at (record { glyph = number; info = blank cluster })
+  pub other-is : other′ ≡ other
+
+pub record Pushes (b : Buffer) (f s : List ℕ) (v : Verdict) : Type 0 where
+  pub is : (g c : ℕ) → Decided (λ capacity a. push capacity g c a) b f s (settled b v) (v .acts) (Puttable (b .len .0) f s) (Put (b .len .0) g c)
+
+-- ---- set_length
+-- the first n glyphs of a run of m, with zeros for those that it does not have
+pub record Lengthened (phase : Phase) (m n : ℕ) (run other run′ other′ : List ℕ) : Type 0 where
+  pub is : take n (shown phase run′ other′) ≡ take n (take m (shown phase run other)) ++ copies (blank 0) (replicate (n - m) 0)
   pub behind : drop n (glyphs run′) ≡ drop n (glyphs run)
   pub other-behind : drop n (placements other′) ≡ drop n (placements other)
 
+pub record SetsLength (n : ℕ) (b : Buffer) (f s : List ℕ) (v : Verdict) : Type 0 where
+  pub is : Decided (λ capacity a. setLength 0 capacity n a) b f s (settled b v) (v .acts) (RunOf (b .phase) n f s) (Lengthened (b .phase) (b .len .0) n)
+
+-- ---- place
 -- four numbers of a position; the fifth word stays
 unfoldable pub repositioned : ℕ → ℕ → ℕ → ℕ → Position → Position
 repositioned xa ya xo yo p = record { «x_advance» = xa; «y_advance» = ya; «x_offset» = xo; «y_offset» = yo; var = p .var }
+
+pub record Placeable (i : ℕ) (f s : List ℕ) : Type 0 where
+  pub in-first : i < length (placements f)
+  pub in-second : i < length (placements s)
+
+pub record Placed (i xa ya xo yo : ℕ) (run other run′ other′ : List ℕ) : Type 0 where
+  pub run-is : run′ ≡ run
+  pub other-is : placements other′ ≡ set (placements other) i (repositioned xa ya xo yo (getD (placements other) i zeroPosition))
+
+pub record Places (i : InputPlace) (b : Buffer) (f s : List ℕ) (v : Verdict) : Type 0 where
+  pub is : (xa ya xo yo : ℕ) → Decided (λ capacity a. place i xa ya xo yo a) b f s (settled b v) (v .acts) (Placeable (i .0) f s) (Placed (i .0) xa ya xo yo)
