@@ -55,7 +55,7 @@ module _ {b : Buffer} {run other : List ℕ} (w : WholeInput b run other) (slot 
   in-graphemes-bad o er = in-refused BadOperand (graphemes-bad slot mask (accountOf b run other) (not-not-whole w) (lt-ltb 1 slot o)) (w .held) er
 
   module _ (o : slot ≤ 1) {r : Reply} where
-    pub in-graphemes-plain : {run′ other′ : List ℕ} {level : ℕ} → level ≡ readLevel (b .level) → (level ≡ 1 → ⊥) → length run′ ≡ length run → length other′ ≡ length other → Rearranges (λ l. regrouped (sizes (continues slot mask) (infos l)) l) b run other run′ other′ → r ≡ reply b Done
+    pub in-graphemes-plain : {run′ other′ : List ℕ} {level : ℕ} → level ≡ readLevel (b .level) → (level ≡ 1 → ⊥) → length run′ ≡ length run → length other′ ≡ length other → Rearranges (λ l. regrouped (sizes (continues slot mask) (infos l)) l) (b .phase) (b .len .0) run other run′ other′ → r ≡ reply b Done
         → MeetsIn (λ capacity a. reverseGraphemes slot mask a) b run other r run′ other′
     unfolding accountOf stateOf
     in-graphemes-plain el n lr lo v er =
@@ -64,7 +64,7 @@ module _ {b : Buffer} {run other : List ℕ} (w : WholeInput b run other) (slot 
 
     pub in-graphemes-merged : {c : Buffer} {run₁ other₁ run₂ other₂ : List ℕ} {level : ℕ} → level ≡ readLevel (b .level) → level ≡ 1
         → Acts (λ a. mergedEach true (sizes (continues slot mask) (infos (a .rest))) 0 a) b run other c run₁ other₁ → c ≡ withLimitsOf (c .limits) b → length run₁ ≡ length run → length other₁ ≡ length other
-        → Rearranges (λ l. regrouped (sizes (continues slot mask) (infos l)) l) c run₁ other₁ run₂ other₂ → length run₂ ≡ length run₁ → length other₂ ≡ length other₁ → r ≡ reply c Done
+        → Rearranges (λ l. regrouped (sizes (continues slot mask) (infos l)) l) (c .phase) (c .len .0) run₁ other₁ run₂ other₂ → length run₂ ≡ length run₁ → length other₂ ≡ length other₁ → r ≡ reply c Done
         → MeetsIn (λ capacity a. reverseGraphemes slot mask a) b run other r run₂ other₂
     unfolding accountOf stateOf
     in-graphemes-merged {c} {run₁} {other₁} {run₂} {other₂} el n u ec lr lo v lr′ lo′ er =

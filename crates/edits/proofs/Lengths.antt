@@ -299,7 +299,7 @@ module _ (n : ℕ) where
     then = _;
     sized = λ run other w. length-is w;
     done = λ run other run′ other′ w h lr lo act. length-done w h lr lo act;
-    asked = λ f s w k. record { clean = w .clean; fits = k; same = w .held .same };
+    asked = λ f s w k. record { clean = w .clean; fits = k; same = w .held .same; few = omega (arith, k, w .held .most) };
     plain = refl;
   }
 

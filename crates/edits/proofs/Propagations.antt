@@ -1,16 +1,18 @@
 -- The flags of neighbours of one cluster: the loop over the groups.
-use mathlib.Core.{Path._≡_, Path.refl, Path.ap, Path.ap₂, Path.sym, Path._∙_, Bool.true, List.List, List.[], List._∷_, List.map}
-use Prim.Native.Nat.{ℕ, _+_, _-_, _%_, _≤_, _<_}
+use mathlib.Core.{Path._≡_, Path.refl, Path.ap, Path.ap₂, Path.sym, Path._∙_, Bool.true, Bool.false, List.List, List.[], List._∷_, List.map}
+use Prim.Native.Nat.{ℕ, suc, _+_, _-_, _%_, _≤_, _<_, zero-le}
+use native.Mathlib.Nat.{le-refl}
 use native.Mathlib.Omega.{arith}
-use lib.{Bits.bitOr, ListN.take, ListN.drop, ListN.length, ListN.getD, Seq.slice}
-use Rattle.records.specs.{WrongPhase, Done, Glyphs.Glyph, Glyphs.Info, Glyphs.withMask, Glyphs.withPosition, Ranges.infos, Ranges.clusters, Ranges.edit, Ranges.heads, Ranges.is, View.glyphs}
+use lib.{Bits.bitOr, Bits.or-zero-r, ListN.take, ListN.drop, ListN.length, ListN.getD, ListN.set, Seq.slice, Seq.slice-empty, Seq.slice-cons}
+use Rattle.records.specs.{Phase, Plain, Done, Glyphs.Glyph, Glyphs.Info, Glyphs.change, Glyphs.withMask, Glyphs.withPosition, Ranges.infos, Ranges.clusters, Ranges.edit, Ranges.heads, Ranges.is, View.glyphs, View.zeroGlyph}
 use Rattle.records.proofs.View.{glyphs-same}
-use Rattle.lists.specs.declared.{Buffer.Buffer, Reply.Reply}
-use Rattle.lists.specs.{Account.Account, Account.withRest, Contract.MeetsIn, Masks.joinedLow, Results.refused, Results.accepted, Results.refuse_when_else_, State.shown, State.accountOf, States.reply}
-use Rattle.lists.proofs.{Accounts.wants-of, Infos.map-take, Infos.map-drop, Infos.words-edit}
-use Rattle.edits.specs.{Acts.Acts, Groups.sizes, Groups.sameCluster, Groups.joined, Groups.settled, Groups.propagated, Groups.propagateFlags, WholeRun.notWhole, Wholes.WholeInput}
+use Rattle.lists.specs.declared.{Buffer.Buffer, Verdict.Verdict}
+use Rattle.lists.specs.{Account.Account, Account.spoiledPhase, Account.withRest, Masks.joinedLow, Results.accepted, Results.refuse_when_else_, State.shown, State.accountOf, Verdicts.Decided}
+use Rattle.lists.specs.Verdicts as verdicts
+use Rattle.lists.proofs.{Accounts.wants-of, Editing.edit-up, Editing.edit-empty, Infos.length-words, Infos.word-of, Infos.map-take, Infos.map-drop, Infos.words-edit}
+use Rattle.edits.specs.{Groups.sizes, Groups.sameCluster, Groups.joined, Groups.settled, Groups.propagated, Groups.propagateFlags, WholeRun.notWhole, Wholes.WholeInput, Wholes.RunOf, Wholes.TakesWhole, Propagating.Propagates, Propagating.PropagatesRun}
 use Rattle.records.proofs.Pairs.{mask-alone}
-use Rattle.edits.proofs.{Holding.edit-take, Holding.edit-drop-behind, Holding.slice-take, Places.Apart, Places.shown-edit, WholeInputs.whole-acts, MergeCalls.in-acts, WholeInputs.not-not-whole, GroupLaws.Group, GroupLaws.no-group, GroupLaws.cluster-group, GroupLaws.clusters-same, GroupLaws.seen-words}
+use Rattle.edits.proofs.{Holding.edit-take, Holding.edit-drop-behind, Holding.slice-take, Places.Apart, Places.shown-edit, WholeInputs.whole-acts, MergeCalls.in-acts, WholeInputs.not-not-whole, WholeCalls.OnRun, WholeCalls.takes-decided, GroupLaws.Group, GroupLaws.no-group, GroupLaws.cluster-group, GroupLaws.clusters-same, GroupLaws.seen-words}
 
 -- ---- masks
 abbrev pub maskOf : Info → ℕ
@@ -33,9 +35,32 @@ mask-cluster : (m : ℕ) (i : Info) → (withMask m i) .cluster ≡ i .cluster
 unfolding withMask
 mask-cluster m i = refl
 
+-- a group of one glyph
+pub one-masked : (l : List (Glyph ℕ)) (s wants : ℕ) {l′ : List (Glyph ℕ)} {x m : ℕ} → x ≡ getD l s zeroGlyph .info .mask → m ≡ settled wants (x % 8) → l′ ≡ set l s (change (withMask m) (getD l s zeroGlyph))
+    → l′ ≡ set l s (change (withMask (settled wants (getD l s zeroGlyph .info .mask % 8))) (getD l s zeroGlyph))
+one-masked l s wants ex em el = el ∙ rw (em, ex)
+
+pub one-inside : {s e : ℕ} (run : List ℕ) → e - s ≡ 1 → e ≤ length (glyphs run) → s < length (glyphs run)
+one-inside run ee f = omega arith
+
+pub one-filled : (run run′ : List ℕ) (s e wants : ℕ) → e - s ≡ 1 → e ≤ length (glyphs run) → glyphs run′ ≡ set (glyphs run) s (change (withMask (settled wants (getD (glyphs run) s zeroGlyph .info .mask % 8))) (getD (glyphs run) s zeroGlyph))
+    → glyphs run′ ≡ edit s e (withMask (settled wants (joinedLow (slice s e (map maskOf (infos (glyphs run))))))) (glyphs run)
+unfolding joinedLow
+one-filled run run′ s e wants ee fits eg =
+    let l : List (Glyph ℕ) = glyphs run in
+    let ms : List ℕ = map maskOf (infos l) in
+    let next : e ≡ suc s = omega arith in
+    let inside : s < length l = omega arith in
+    let long : length ms ≡ length l = length-words maskOf l in
+    let masks : slice s (suc s) ms ≡ getD ms s 0 ∷ [] = slice-cons s (suc s) ms 0 (omega arith) (omega arith) ∙ ap (λ (r : List ℕ). getD ms s 0 ∷ r) (slice-empty (suc s) ms) in
+    let low : getD l s zeroGlyph .info .mask % 8 ≡ joinedLow (slice s (suc s) ms) = ap (λ (y : ℕ). y % 8) (word-of maskOf l s 0 inside) ∙ (sym (or-zero-r (getD ms s 0 % 8)) ∙ sym (ap joinedLow masks)) in
+    let m : ℕ = settled wants (getD l s zeroGlyph .info .mask % 8) in
+    let one : edit s (suc s) (withMask m) l ≡ set l s (change (withMask m) (getD l s zeroGlyph)) = edit-up (withMask m) zeroGlyph s s l (le-refl s) inside ∙ ap (λ (k : List (Glyph ℕ)). set k s (change (withMask m) (getD l s zeroGlyph))) (edit-empty (withMask m) s l) in
+    rw next (eg ∙ (sym one ∙ ap (λ (n : ℕ). edit s (suc s) (withMask (settled wants n)) l) low))
+
 -- ---- the loop: groups before s have their masks, those from s on are still to get them
-abbrev seenRun : Buffer → (run other : List ℕ) → List (Glyph ℕ)
-seenRun b run other = take (b .len .0) (shown (b .phase) run other)
+abbrev seenRun : Phase → ℕ → (run other : List ℕ) → List (Glyph ℕ)
+seenRun p n run other = take n (shown p run other)
 
 one-more : (wants n : ℕ) (ns : List ℕ) (s : ℕ) (l : List (Glyph ℕ)) → propagated wants (n ∷ ns) s l ≡ propagated wants ns (s + n) (edit s (s + n) (withMask (settled wants (joined (slice s (s + n) (infos l))))) l)
 unfolding propagated
@@ -45,82 +70,101 @@ no-more : (wants s : ℕ) (l : List (Glyph ℕ)) → propagated wants [] s l ≡
 unfolding propagated
 no-more wants s l = refl
 
-pub record Spread (b : Buffer) (run other run′ : List ℕ) (s : ℕ) : Type 0 where
+pub record Spread (wants n : ℕ) (run run′ : List ℕ) (s : ℕ) : Type 0 where
   pub same-run : length run′ ≡ length run
-  pub fits : b .len .0 ≤ length (glyphs run′)
-  pub high : s ≤ b .len .0
-  pub behind : drop (b .len .0) (glyphs run′) ≡ drop (b .len .0) (glyphs run)
-  pub is : propagated (b .wants) (sizes sameCluster (drop s (infos (seenRun b run′ other)))) s (seenRun b run′ other)
-      ≡ propagated (b .wants) (sizes sameCluster (infos (seenRun b run other))) 0 (seenRun b run other)
+  pub fits : n ≤ length (glyphs run′)
+  pub high : s ≤ n
+  pub behind : drop n (glyphs run′) ≡ drop n (glyphs run)
+  pub is : (p : Phase) (other : List ℕ) → spoiledPhase p ≡ false → propagated wants (sizes sameCluster (drop s (infos (seenRun p n run′ other)))) s (seenRun p n run′ other)
+      ≡ propagated wants (sizes sameCluster (infos (seenRun p n run other))) 0 (seenRun p n run other)
 
-module _ {b : Buffer} {run other : List ℕ} (w : WholeInput b run other) where
-  pub spread-none : Spread b run other run 0
-  spread-none = record { same-run = refl; fits = omega (arith, w .held .len-in, w .held .all-in); high = omega arith; behind = refl; is = refl }
+module _ {wants n : ℕ} {run : List ℕ} where
+  pub spread-none : n ≤ length (glyphs run) → Spread wants n run run 0
+  spread-none h = record { same-run = refl; fits = h; high = zero-le; behind = refl; is = λ p other k. refl }
 
-  module _ {run′ : List ℕ} {s : ℕ} (v : Spread b run other run′ s) where
-    pub spread-group : {e : ℕ} → s < b .len .0 → e ≡ s + 1 + heads (is (getD (clusters (glyphs run′)) s 4294967295)) (slice (s + 1) (b .len .0) (clusters (glyphs run′))) → Group sameCluster (shown (b .phase) run′ other) (b .len .0) s e
-    spread-group o ee = cluster-group (b .phase) run′ other (w .clean) (v .fits) o ee
+  module _ {run′ : List ℕ} {s : ℕ} (v : Spread wants n run run′ s) where
+    module _ {e : ℕ} (o : s < n) (ee : e ≡ s + 1 + heads (is (getD (clusters (glyphs run′)) s 4294967295)) (slice (s + 1) n (clusters (glyphs run′)))) where
+      group-at : (p : Phase) (other : List ℕ) → spoiledPhase p ≡ false → Group sameCluster (shown p run′ other) n s e
+      group-at p other k = cluster-group p run′ other k (v .fits) o ee
 
-    module _ {e : ℕ} (g : Group sameCluster (shown (b .phase) run′ other) (b .len .0) s e) where
+      after : s < e
+      after = group-at Plain [] refl .after
+
+      inside : e ≤ n
+      inside = group-at Plain [] refl .inside
+
       pub group-order : s ≤ e
-      group-order = omega (arith, g .after)
+      group-order = omega (arith, after)
 
       pub group-fits : e ≤ length (glyphs run′)
-      group-fits = omega (arith, g .inside, v .fits)
+      group-fits = omega (arith, inside, v .fits)
 
-      masks-seen : slice s e (map maskOf (infos (glyphs run′))) ≡ map maskOf (slice s e (infos (seenRun b run′ other)))
-      masks-seen =
-          let l : List Info = infos (seenRun b run′ other) in
-          sym (map-drop maskOf s (take e l)
-          ∙ (ap (drop s) (map-take maskOf e l)
-          ∙ (ap (slice s e) (seen-words (b .phase) run′ other (w .clean) (v .fits) maskOf mask-alone)
-          ∙ slice-take s e (b .len .0) (map maskOf (infos (glyphs run′))) (g .inside))))
+      pub group-less : n - e < n - s
+      group-less = omega (arith, after, inside)
 
-      group-mask : settled (b .wants) (joinedLow (slice s e (map maskOf (infos (glyphs run′))))) ≡ settled (b .wants) (joined (slice s e (infos (seenRun b run′ other))))
-      group-mask = ap (settled (b .wants)) (ap joinedLow masks-seen ∙ sym (joined-low (slice s e (infos (seenRun b run′ other)))))
+      module _ (p : Phase) (other : List ℕ) (k : spoiledPhase p ≡ false) where
+        masks-seen : slice s e (map maskOf (infos (glyphs run′))) ≡ map maskOf (slice s e (infos (seenRun p n run′ other)))
+        masks-seen =
+            let l : List Info = infos (seenRun p n run′ other) in
+            sym (map-drop maskOf s (take e l)
+            ∙ (ap (drop s) (map-take maskOf e l)
+            ∙ (ap (slice s e) (seen-words p run′ other k (v .fits) maskOf mask-alone)
+            ∙ slice-take s e n (map maskOf (infos (glyphs run′))) inside)))
+
+        group-mask : settled wants (joinedLow (slice s e (map maskOf (infos (glyphs run′))))) ≡ settled wants (joined (slice s e (infos (seenRun p n run′ other))))
+        group-mask = ap (settled wants) (ap joinedLow masks-seen ∙ sym (joined-low (slice s e (infos (seenRun p n run′ other)))))
 
       pub spread-more : {run″ : List ℕ} → length run″ ≡ length run′
-          → glyphs run″ ≡ edit s e (withMask (settled (b .wants) (joinedLow (slice s e (map maskOf (infos (glyphs run′))))))) (glyphs run′) → Spread b run other run″ e
-      spread-more {run″} lr eg =
-          let L : List (Glyph ℕ) = seenRun b run′ other in
-          let L′ : List (Glyph ℕ) = seenRun b run″ other in
-          let m : ℕ = settled (b .wants) (joined (slice s e (infos L))) in
-          let after : s < e = g .after in
-          let order : s ≤ e = omega arith in
+          → glyphs run″ ≡ edit s e (withMask (settled wants (joinedLow (slice s e (map maskOf (infos (glyphs run′))))))) (glyphs run′) → Spread wants n run run″ e
+      spread-more {run″} lr eg = record {
+        same-run = lr ∙ v .same-run;
+        fits = rw (glyphs-same run″ run′ lr) (v .fits);
+        high = inside;
+        behind = (ap (drop n) eg ∙ edit-drop-behind (withMask (settled wants (joinedLow (slice s e (map maskOf (infos (glyphs run′))))))) s e n (glyphs run′) group-order inside) ∙ v .behind;
+        is = λ p other k.
+          let L : List (Glyph ℕ) = seenRun p n run′ other in
+          let L′ : List (Glyph ℕ) = seenRun p n run″ other in
+          let m : ℕ = settled wants (joined (slice s e (infos L))) in
+          let first : s < e = after in
           let on : s + (e - s) ≡ e = omega arith in
-          let edited : glyphs run″ ≡ edit s e (withMask m) (glyphs run′) = eg ∙ ap (λ (n : ℕ). edit s e (withMask n) (glyphs run′)) group-mask in
+          let edited : glyphs run″ ≡ edit s e (withMask m) (glyphs run′) = eg ∙ ap (λ (x : ℕ). edit s e (withMask x) (glyphs run′)) (group-mask p other k) in
           let seen : L′ ≡ edit s e (withMask m) L =
-          ap (take (b .len .0)) (shown-edit (withMask m) (mask-apart m) s e (b .phase) run′ run″ other order (w .clean) edited) ∙ edit-take (withMask m) s e (b .len .0) (shown (b .phase) run′ other) order (g .inside) in
+          ap (take n) (shown-edit (withMask m) (mask-apart m) s e p run′ run″ other group-order k edited) ∙ edit-take (withMask m) s e n (shown p run′ other) group-order inside in
           let later : sizes sameCluster (drop e (infos L′)) ≡ sizes sameCluster (drop e (infos L)) =
-          clusters-same e (infos L′) (infos L) (ap (λ (l : List (Glyph ℕ)). map (λ i. i .cluster) (infos l)) seen ∙ words-edit (λ i. i .cluster) (withMask m) (mask-cluster m) s e L order) in
-          record {
-            same-run = lr ∙ v .same-run;
-            fits = rw (glyphs-same run″ run′ lr) (v .fits);
-            high = g .inside;
-            behind = (ap (drop (b .len .0)) edited ∙ edit-drop-behind (withMask m) s e (b .len .0) (glyphs run′) order (g .inside)) ∙ v .behind;
-            is = ap₂ (λ (ns : List ℕ) (l : List (Glyph ℕ)). propagated (b .wants) ns e l) later seen
-                ∙ (ap (λ (n : ℕ). propagated (b .wants) (sizes sameCluster (drop e (infos L))) n (edit s n (withMask (settled (b .wants) (joined (slice s n (infos L))))) L)) (sym on)
-                ∙ (sym (ap (λ (ns : List ℕ). propagated (b .wants) ns s L) (g .is) ∙ one-more (b .wants) (e - s) (sizes sameCluster (drop e (infos L))) s L) ∙ v .is));
-          }
+          clusters-same e (infos L′) (infos L) (ap (λ (l : List (Glyph ℕ)). map (λ i. i .cluster) (infos l)) seen ∙ words-edit (λ i. i .cluster) (withMask m) (mask-cluster m) s e L group-order) in
+          ap₂ (λ (ns : List ℕ) (l : List (Glyph ℕ)). propagated wants ns e l) later seen
+          ∙ (ap (λ (x : ℕ). propagated wants (sizes sameCluster (drop e (infos L))) x (edit s x (withMask (settled wants (joined (slice s x (infos L))))) L)) (sym on)
+          ∙ (sym (ap (λ (ns : List ℕ). propagated wants ns s L) (group-at p other k .is) ∙ one-more wants (e - s) (sizes sameCluster (drop e (infos L))) s L) ∙ v .is p other k));
+      }
 
-    pub spread-done : b .len .0 ≤ s → Acts (λ a. withRest (propagated (b .wants) (sizes sameCluster (infos (a .rest))) 0 (a .rest)) a) b run other b run′ other
+    pub spread-done : n ≤ s → Propagates wants n run run′
     spread-done o =
-        let high : s ≤ b .len .0 = v .high in
-        let end : s ≡ b .len .0 = omega arith in
-        let none : sizes sameCluster (drop s (infos (seenRun b run′ other))) ≡ [] = rw end (no-group (b .phase) run′ other (w .clean) (v .fits) sameCluster) in
-        whole-acts w (v .same-run) refl (v .behind) refl (λ l. propagated (b .wants) (sizes sameCluster (infos l)) 0 l)
-        (sym (ap (λ (ns : List ℕ). propagated (b .wants) ns s (seenRun b run′ other)) none ∙ no-more (b .wants) s (seenRun b run′ other)) ∙ v .is)
+        let high : s ≤ n = v .high in
+        let end : s ≡ n = omega arith in
+        record {
+          behind = v .behind;
+          is = λ p other k.
+            let none : sizes sameCluster (drop s (infos (seenRun p n run′ other))) ≡ [] = rw end (no-group p run′ other k (v .fits) sameCluster) in
+            sym (ap (λ (ns : List ℕ). propagated wants ns s (seenRun p n run′ other)) none ∙ no-more wants s (seenRun p n run′ other)) ∙ v .is p other k;
+        }
+
+pub propagates-run : {wants n : ℕ} {run other run′ : List ℕ} → Propagates wants n run run′ → PropagatesRun wants n run other run′ other
+propagates-run w = record { run-does = w; other-is = refl }
 
 -- ---- the call
-pub propagate-refused : (a : Account ℕ) → notWhole a ≡ true → propagateFlags a ≡ refused WrongPhase
-unfolding propagateFlags refuse_when_else_
-propagate-refused a h = rw h
-
 propagate-accepts : {b : Buffer} {run other : List ℕ} → WholeInput b run other
     → propagateFlags (accountOf b run other) ≡ accepted (withRest (propagated (b .wants) (sizes sameCluster (infos ((accountOf b run other) .rest))) 0 ((accountOf b run other) .rest)) (accountOf b run other))
 unfolding propagateFlags refuse_when_else_
 propagate-accepts {b} {run} {other} w = rw (not-not-whole w, wants-of b run other)
 
-pub propagate-done : {b : Buffer} {run other run′ : List ℕ} {r : Reply} → WholeInput b run other
-    → Acts (λ a. withRest (propagated (b .wants) (sizes sameCluster (infos (a .rest))) 0 (a .rest)) a) b run other b run′ other → r ≡ reply b Done → MeetsIn (λ capacity a. propagateFlags a) b run other r run′ other
-propagate-done w u er = in-acts u (propagate-accepts w) er
+on-run-propagate : (b : Buffer) → OnRun (λ capacity a. propagateFlags a) b (PropagatesRun (b .wants) (b .len .0))
+unfolding propagateFlags refuse_when_else_
+on-run-propagate b = record {
+  whole = record { refuses = λ capacity a h. rw h };
+  done = λ run other run′ other′ w lr lo act.
+    let d = act .run-does in
+    rw (act .other-is) (in-acts (whole-acts w lr refl (d .behind) refl (λ l. propagated (b .wants) (sizes sameCluster (infos l)) 0 l) (d .is (b .phase) other (w .clean))) (propagate-accepts w) refl);
+}
+
+pub propagate-decided : {b : Buffer} {f s : List ℕ} {v : Verdict} → TakesWhole b f s v → Decided (λ capacity a. propagateFlags a) b f s (verdicts.settled b v) (v .acts) (RunOf (b .phase) (b .len .0) f s) (PropagatesRun (b .wants) (b .len .0))
+propagate-decided {b} w = takes-decided (on-run-propagate b) w

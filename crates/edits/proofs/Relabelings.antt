@@ -6,18 +6,20 @@ use native.Mathlib.Numerals.{add-one}
 use native.Mathlib.Omega.{arith}
 use borrow.Author.Tests.{eq-eqb, ne-eqb, le-leb, lt-leb}
 use lib.{Bits.bitAnd, Bits.bitOr, Dec.leb, Dec.ltb, ListN.length, ListN.take, ListN.drop, ListN.getD, ListN.set, ListN.length-take, ListN.drop-of-length-le, Seq.set-getD, Seq.take-all, Seq.take-at, Seq.drop-at, Seq.length-take-le}
-use Rattle.records.specs.{Phase, Plain, Output, Positions, Spoiled, Limits, Position, WrongPhase, Done, No, Glyphs.Glyph, Glyphs.Info, Glyphs.change, Glyphs.withMask, Glyphs.withCluster, Glyphs.withPosition, Counters.costs, Ranges.is, Ranges.edit, Ranges.clusters, View.glyphs, View.placements, View.paired, View.zeroGlyph}
+use Rattle.records.specs.{Phase, Plain, Output, Positions, Spoiled, Limits, Position, Contradiction, WrongPhase, Done, No, Glyphs.Glyph, Glyphs.Info, Glyphs.change, Glyphs.withMask, Glyphs.withCluster, Glyphs.withPosition, Counters.costs, Ranges.is, Ranges.edit, Ranges.clusters, View.glyphs, View.placements, View.paired, View.zeroGlyph}
 use Rattle.records.proofs.View.{glyphs-same, cluster-of}
 use Rattle.records.proofs.Pairs.{paired-take}
-use Rattle.lists.specs.declared.{Buffer.Buffer, Reply.Reply}
-use Rattle.lists.specs.{Account.Account, Account.spoiledPhase, Account.len, Account.limiting, Account.paying, Account.withRest, Contract.MeetsIn, Results.refused, Results.accepted, Results.refuse_when_else_, State.shown, State.accountOf, State.Held, States.reply, States.withLimitsOf}
-use Rattle.lists.proofs.{Accounts.len-of, Accounts.limited-of, Calls.in-accepted}
-use Rattle.edits.specs.{WholeRun.notWhole, WholeRun.masked, WholeRun.setMasks, WholeRun.numbered, WholeRun.resetClusters, Wholes.WholeInput}
+use Rattle.lists.specs.declared.{Buffer.Buffer, Verdict.Verdict}
+use Rattle.lists.specs.{Account.Account, Account.spoiledPhase, Account.len, Account.limiting, Account.paying, Account.withRest, Contract.MeetsIn, Results.accepted, Results.refuse_when_else_, State.shown, State.accountOf, State.sound, States.reply, States.withLimitsOf, Verdicts.Leaves, Verdicts.settled, Verdicts.Decided}
+use Rattle.lists.proofs.{Accounts.len-of, Accounts.limited-of}
+use Rattle.lists.proofs.Decisions.{near-same, near-limits, leaves-as, accepts, decided-unsound, decided-refused, decided-accepted, decided-does}
+use Rattle.edits.specs.{WholeRun.notWhole, WholeRun.masked, WholeRun.setMasks, WholeRun.numbered, WholeRun.resetClusters, Wholes.WholeInput, Wholes.RunOf, Wholes.TakesWhole, Wholes.RunBecomes, Relabels.SetsMasks}
 use Rattle.edits.proofs.Holding.{edit-take, edit-drop-behind}
 use Rattle.edits.proofs.MergeCalls.{acts-paid, in-acts}
 use Rattle.edits.proofs.Pairs.{paired-numbered}
 use Rattle.edits.proofs.Places.{Apart, shown-edit}
-use Rattle.edits.proofs.WholeInputs.{wholeTest, not-not-whole, in-not-whole, whole-is, whole-acts}
+use Rattle.edits.proofs.WholeInputs.{wholeTest, not-not-whole, whole-is, whole-acts}
+use Rattle.edits.proofs.WholeCalls.{OnWhole, OnRun, whole-refuses, lying-whole, sound-whole, whole-run, run-second, takes-decided}
 
 -- ---- which glyphs are masked
 abbrev maskTest : ℕ → ℕ → ℕ → Bool
@@ -78,21 +80,13 @@ module _ (h : Info → Info) (a : Apart h) (n : ℕ) (run run′ other : List �
       let short : length (take n l) ≤ n = rw (length-take n l) (omega arith) in
       ap (take n) (shown-edit h a 0 n p run run′ other zero-le k e) ∙ (edit-take h 0 n n l zero-le (le-refl n) ∙ edit-all h n (take n l) short)
 
--- what the loops ask for
-module _ {b : Buffer} {run other : List ℕ} (w : WholeInput b run other) where
-  pub masks-room : b .len .0 ≤ length (glyphs run)
-  masks-room = omega (arith, w .held .len-in, w .held .all-in)
-
-  pub reset-room : (b .len .0 ≤ length (glyphs run)) × (b .len .0 ≤ 1048576)
-  reset-room = (masks-room, omega (arith, masks-room, w .held .most))
-
 -- ---- set_masks
 module _ (value mask s e : ℕ) where
-  module _ (a : Account ℕ) where
-    masks-refused : notWhole a ≡ true → setMasks value mask s e a ≡ refused WrongPhase
-    unfolding setMasks refuse_when_else_
-    masks-refused h = rw h
+  on-whole-masks : OnWhole (λ capacity a. setMasks value mask s e a)
+  unfolding setMasks refuse_when_else_
+  on-whole-masks = record { refuses = λ capacity a h. rw h }
 
+  module _ (a : Account ℕ) where
     masks-nothing : notWhole a ≡ false → mask ≡ 0 → setMasks value mask s e a ≡ accepted a
     unfolding setMasks refuse_when_else_
     masks-nothing h k = rw (h, eq-eqb mask 0 k)
@@ -101,26 +95,44 @@ module _ (value mask s e : ℕ) where
     unfolding setMasks refuse_when_else_
     masks-some h k n en = rw (h, ne-eqb mask 0 k, en)
 
-  module _ {b : Buffer} {run other : List ℕ} {r : Reply} where
-    pub masks-not-whole : {t : Bool} → Held b run other → t ≡ wholeTest b → t ≡ true → r ≡ reply b (No WrongPhase) → MeetsIn (λ capacity a. setMasks value mask s e a) b run other r run other
-    masks-not-whole v et h er = in-not-whole v et h (masks-refused (accountOf b run other)) er
+  masks-done : {b : Buffer} {run other run′ : List ℕ} → WholeInput b run other → (mask ≡ 0 → ⊥) → length run′ ≡ length run → glyphs run′ ≡ edit 0 (b .len .0) (masked value mask s e) (glyphs run)
+      → MeetsIn (λ capacity a. setMasks value mask s e a) b run other (reply (withLimitsOf (costs (b .len .0) (b .limits)) b) Done) run′ other
+  unfolding paying
+  masks-done {b} {run} {other} {run′} w k lr eg =
+      let h : Info → Info = masked value mask s e in
+      let n : ℕ = b .len .0 in
+      let call : Account ℕ → Account ℕ = λ a. paying n (withRest (map (change h) (a .rest)) a) in
+      in-acts {h = call}
+      (acts-paid (w .held) call n refl refl lr refl (ap (drop n) eg ∙ edit-drop-behind h 0 n n (glyphs run) zero-le (le-refl n)) refl
+      (limited-of b run′ other (costs n)
+      ∙ ap (limiting (costs n)) (whole-is run′ other w lr refl (map (change h)) (shown-all h (mask-apart value mask s e) n run run′ other eg (b .phase) (w .clean)))) .0)
+      (masks-some (accountOf b run other) (not-not-whole w) k n (len-of b run other (w .held) (w .clean))) refl
 
-    module _ (w : WholeInput b run other) where
-      pub masks-none : mask ≡ 0 → r ≡ reply b Done → MeetsIn (λ capacity a. setMasks value mask s e a) b run other r run other
-      masks-none k er = in-accepted b refl refl refl (w .held) (masks-nothing (accountOf b run other) (not-not-whole w) k) er
+module _ {mask : ℕ} {b : Buffer} {f s : List ℕ} {v : Verdict} where
+  pub masks-unsound : sound b f s ≡ false → Leaves b false (No Contradiction) v → SetsMasks mask b f s v
+  masks-unsound h w = record { is = λ value start stop. decided-unsound h w }
 
-      pub masks-done : {run′ : List ℕ} {l : Limits} {f : Buffer} → (mask ≡ 0 → ⊥) → length run′ ≡ length run → glyphs run′ ≡ edit 0 (b .len .0) (masked value mask s e) (glyphs run)
-          → l ≡ costs (b .len .0) (b .limits) → f ≡ withLimitsOf l b → r ≡ reply f Done → MeetsIn (λ capacity a. setMasks value mask s e a) b run other r run′ other
-      unfolding paying
-      masks-done {run′} k lr eg el ef er =
-          let h : Info → Info = masked value mask s e in
-          let n : ℕ = b .len .0 in
-          let call : Account ℕ → Account ℕ = λ a. paying n (withRest (map (change h) (a .rest)) a) in
-          in-acts {h = call}
-          (acts-paid (w .held) call n el ef lr refl (ap (drop n) eg ∙ edit-drop-behind h 0 n n (glyphs run) zero-le (le-refl n)) refl
-          (limited-of b run′ other (costs n)
-          ∙ ap (limiting (costs n)) (whole-is run′ other w lr refl (map (change h)) (shown-all h (mask-apart value mask s e) n run run′ other eg (b .phase) (w .clean)))) .0)
-          (masks-some (accountOf b run other) (not-not-whole w) k n (len-of b run other (w .held) (w .clean))) er
+  module _ {t : Bool} (h : sound b f s ≡ true) (et : t ≡ wholeTest b) where
+    pub masks-not-whole : t ≡ true → Leaves b false (No WrongPhase) v → SetsMasks mask b f s v
+    masks-not-whole k w = record { is = λ value start stop. decided-refused h (whole-refuses (on-whole-masks value mask start stop) et k) w }
+
+    module _ (k : t ≡ false) where
+      pub masks-none : mask ≡ 0 → Leaves b false Done v → SetsMasks mask b f s v
+      masks-none m w = record { is = λ value start stop. decided-accepted h (accepts Done refl (near-same b) (λ run other l. (masks-nothing value mask start stop (accountOf b run other) (not-not-whole (lying-whole et k l)) m, l .held))) w }
+
+      pub masks-ahead : {x : Buffer} {l : Limits} → (mask ≡ 0 → ⊥) → l ≡ costs (b .len .0) (b .limits) → x ≡ withLimitsOf l b → Leaves x true Done v → SetsMasks mask b f s v
+      masks-ahead m el ex w = record { is = λ value start stop. decided-does h (record {
+        near = near-limits b _;
+        none = λ c. absurd (false≢true (sym c));
+        law = λ run other run′ other′ l lr lo act. rw (act .other-is) (masks-done value mask start stop (lying-whole et k l) m lr (act .run-is));
+      }) (λ c. whole-run (sound-whole h et k)) (leaves-as (ex ∙ ap (λ (y : Limits). withLimitsOf y b) el) w) }
+
+  module _ (w : SetsMasks mask b f s v) (t : v .acts ≡ true) where
+    pub masks-first : b .len .0 ≤ length (glyphs f)
+    masks-first = w .is 0 0 0 .asked t .fits
+
+    pub masks-second : b .len .0 ≤ length (glyphs s)
+    masks-second = run-second (w .is 0 0 0 .asked t)
 
 -- ---- the first i glyphs are numbered
 length-numbered : {G : Type 0} (k : ℕ) (l : List (Glyph G)) → length (numbered k l) ≡ length l
@@ -189,23 +201,20 @@ module _ (n : ℕ) (run run′ other : List ℕ) (fits : n ≤ length (glyphs ru
   shown-numbered Spoiled k = absurd (false≢true (sym k))
 
 -- ---- reset_clusters
-module _ (a : Account ℕ) where
-  reset-refused : notWhole a ≡ true → resetClusters a ≡ refused WrongPhase
-  unfolding resetClusters refuse_when_else_
-  reset-refused h = rw h
+reset-all : (a : Account ℕ) → notWhole a ≡ false → resetClusters a ≡ accepted (withRest (numbered 0 (a .rest)) a)
+unfolding resetClusters refuse_when_else_
+reset-all a h = rw h
 
-  reset-all : notWhole a ≡ false → resetClusters a ≡ accepted (withRest (numbered 0 (a .rest)) a)
-  unfolding resetClusters refuse_when_else_
-  reset-all h = rw h
+on-run-reset : (b : Buffer) → OnRun (λ capacity a. resetClusters a) b (RunBecomes (λ l. numbered 0 (take (b .len .0) l) ++ drop (b .len .0) l))
+unfolding resetClusters refuse_when_else_
+on-run-reset b = record {
+  whole = record { refuses = λ capacity a h. rw h };
+  done = λ run other run′ other′ w lr lo act.
+    let fits = whole-run w .fits in
+    rw (act .other-is) (in-acts
+    (whole-acts w lr refl (numbered-behind (b .len .0) run run′ other fits (act .run-is)) refl (numbered 0) (shown-numbered (b .len .0) run run′ other fits (act .run-is) (b .phase) (w .clean)))
+    (reset-all (accountOf b run other) (not-not-whole w)) refl);
+}
 
-module _ {b : Buffer} {run other : List ℕ} {r : Reply} where
-  pub reset-not-whole : {t : Bool} → Held b run other → t ≡ wholeTest b → t ≡ true → r ≡ reply b (No WrongPhase) → MeetsIn (λ capacity a. resetClusters a) b run other r run other
-  reset-not-whole v et h er = in-not-whole v et h (reset-refused (accountOf b run other)) er
-
-  module _ (w : WholeInput b run other) where
-    pub reset-done : {run′ : List ℕ} → length run′ ≡ length run → glyphs run′ ≡ numbered 0 (take (b .len .0) (glyphs run)) ++ drop (b .len .0) (glyphs run)
-        → r ≡ reply b Done → MeetsIn (λ capacity a. resetClusters a) b run other r run′ other
-    reset-done {run′} lr e er =
-        in-acts
-        (whole-acts w lr refl (numbered-behind (b .len .0) run run′ other (masks-room w) e) refl (numbered 0) (shown-numbered (b .len .0) run run′ other (masks-room w) e (b .phase) (w .clean)))
-        (reset-all (accountOf b run other) (not-not-whole w)) er
+pub reset-decided : {b : Buffer} {f s : List ℕ} {v : Verdict} → TakesWhole b f s v → Decided (λ capacity a. resetClusters a) b f s (settled b v) (v .acts) (RunOf (b .phase) (b .len .0) f s) (RunBecomes (λ l. numbered 0 (take (b .len .0) l) ++ drop (b .len .0) l))
+reset-decided {b} w = takes-decided (on-run-reset b) w

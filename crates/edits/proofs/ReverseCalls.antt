@@ -1,39 +1,42 @@
 -- Reversals of a buffer's run: from what the slice functions leave to the account.
-use mathlib.Core.{Path._≡_, Path.refl, Path.sym, Path.ap, Path._∙_, Bool.Bool, Bool.true, Bool.false, Bool._||_, Bool.false≢true, List.List, List.reverse}
-use Prim.Native.Nat.{ℕ, _≤_}
+use mathlib.Core.{Path._≡_, Path.refl, Path.sym, Path.ap, Path._∙_, Bool.Bool, Bool.true, Bool.false, Bool.cond, Bool._||_, Bool.false≢true, List.List, List.reverse}
+use Prim.Native.Nat.{ℕ, _≤_, zero-le}
+use native.Mathlib.Nat.{le-refl}
 use native.Mathlib.Omega.{arith}
-use lib.{Dec.ltb, ListN.length, ListN.length-take, ListN.take, ListN.drop}
-use Rattle.records.specs.{Phase, Plain, Output, Positions, Spoiled, InputPlace, WrongPhase, OutOfRange, Done, No, Glyphs.Glyph, Ranges.infos, View.glyphs, View.placements}
-use Rattle.records.proofs.View.{glyphs-same, placements-glyphs}
-use Rattle.lists.specs.declared.{Buffer.Buffer, Reply.Reply}
-use Rattle.lists.specs.{Account.Account, Account.positionsPhase, Account.spoiledPhase, Account.withRest, Contract.MeetsIn, Results.refused, Results.accepted, Results.refuse_when_else_, State.shown, State.goneOf, State.accountOf, States.reply, Turned.turned}
-use Rattle.lists.proofs.{Calls.in-refused}
-use Rattle.edits.specs.{Acts.Acts, WholeRun.notWhole, WholeRun.reverseRun, WholeRun.reverseRange, Merging.outsideInput, Groups.sizes, Groups.sameCluster, Groups.regrouped, Groups.reverseClusters, Wholes.WholeInput, Reversals.Rearranges}
+use lib.{Dec.ltb, ListN.length, ListN.take, ListN.drop, Seq.length-take-le}
+use Rattle.records.specs.{Phase, Plain, Output, Positions, Spoiled, InputPlace, Contradiction, WrongPhase, OutOfRange, Done, No, Glyphs.Glyph, Ranges.infos, View.glyphs, View.placements}
+use Rattle.records.proofs.View.{glyphs-same, placements-glyphs, length-paired}
+use Rattle.lists.specs.declared.{Buffer.Buffer, Verdict.Verdict}
+use Rattle.lists.specs.{Account.Account, Account.positionsPhase, Account.spoiledPhase, Account.withRest, Results.refused, Results.accepted, Results.refuse_when_else_, State.shown, State.goneOf, State.accountOf, State.sound, Turned.turned, Verdicts.Leaves, Verdicts.settled, Verdicts.Decided}
+use Rattle.lists.proofs.Decisions.{near-same, decided-unsound, decided-refused, decided-does}
+use Rattle.edits.specs.{Acts.Acts, WholeRun.notWhole, WholeRun.reverseRun, WholeRun.reverseRange, Merging.outsideInput, Groups.sizes, Groups.sameCluster, Groups.regrouped, Groups.reverseClusters, Wholes.WholeInput, Wholes.RunOf, Wholes.TakesWhole, Reversals.Turns, Reversals.Rearranges, Reversals.ReversesRange}
 use Rattle.edits.proofs.MergeCalls.{outside-of, in-mergeful, in-acts}
-use Rattle.edits.proofs.WholeInputs.{not-not-whole, account-whole, whole-rest, whole-acts}
+use Rattle.edits.proofs.WholeInputs.{wholeTest, not-not-whole, whole-rest, whole-acts}
+use Rattle.edits.proofs.WholeCalls.{OnWhole, OnRun, whole-refuses, lying-whole, sound-whole, whole-run, run-shorter, places-fit, takes-decided}
 use Rattle.edits.proofs.TurnParts.{turned-take, turned-drop, turned-all}
 use Rattle.edits.proofs.PairTurns.{paired-turned}
 
--- ---- the run has room in its slice, and its positions in the other
-module _ {b : Buffer} {run other : List ℕ} (w : WholeInput b run other) where
-  pub run-fits : b .len .0 ≤ length (glyphs run)
-  run-fits = omega (arith, w .held .len-in, w .held .all-in)
+-- ---- what is shown of a run has its length
+shown-room : (p : Phase) {n : ℕ} (run other : List ℕ) → spoiledPhase p ≡ false → n ≤ length (glyphs run) → n ≤ length (shown p run other)
+unfolding shown
+shown-room Plain run other h k = k
+shown-room Output run other h k = k
+shown-room Positions run other h k = rw (length-paired (glyphs run) (placements other)) k
+shown-room Spoiled run other h k = absurd (false≢true (sym h))
 
-  pub places-same : length (glyphs run) ≡ length (placements other)
-  places-same = glyphs-same run other (w .held .same) ∙ sym (placements-glyphs other)
+module _ {phase : Phase} {n : ℕ} {run other : List ℕ} (w : RunOf phase n run other) where
+  places-same : length (glyphs run) ≡ length (placements other)
+  places-same = glyphs-same run other (w .same) ∙ sym (placements-glyphs other)
 
-  pub places-fit : b .len .0 ≤ length (placements other)
-  places-fit = omega (arith, run-fits, places-same)
+  shown-fits : n ≤ length (shown phase run other)
+  shown-fits = shown-room phase run other (w .clean) (w .fits)
 
-  pub shown-length : length (take (b .len .0) (shown (b .phase) run other)) ≡ b .len .0
-  shown-length = ap (λ (a : Account ℕ). length (a .rest)) (sym (account-whole w)) ∙ whole-rest w
-
-  shown-fits : b .len .0 ≤ length (shown (b .phase) run other)
-  shown-fits = omega (arith, shown-length, length-take (b .len .0) (shown (b .phase) run other))
+  pub shown-length : length (take n (shown phase run other)) ≡ n
+  shown-length = length-take-le n (shown phase run other) shown-fits
 
 -- ---- a range turned round, in each phase
 module _ (run other run′ other′ : List ℕ) (s e : ℕ) (er : glyphs run′ ≡ turned s e (glyphs run)) where
-  shown-plain : (p : Phase) → positionsPhase p ≡ false → spoiledPhase p ≡ false → shown p run′ other ≡ turned s e (shown p run other)
+  shown-plain : (p : Phase) → positionsPhase p ≡ false → spoiledPhase p ≡ false → shown p run′ other′ ≡ turned s e (shown p run other)
   unfolding shown
   shown-plain Plain h k = er
   shown-plain Output h k = er
@@ -48,48 +51,42 @@ module _ (run other run′ other′ : List ℕ) (s e : ℕ) (er : glyphs run′ 
   shown-paired Positions h eo n o f = rw (er, eo) (paired-turned s e (glyphs run) (placements other) n o f)
   shown-paired Spoiled h eo n o f = absurd (false≢true h)
 
-module _ {b : Buffer} {run other : List ℕ} (w : WholeInput b run other) {s e : ℕ} (o : s ≤ e) (f : e ≤ b .len .0) (run′ : List ℕ) (er : glyphs run′ ≡ turned s e (glyphs run)) where
-  run-kept : drop (b .len .0) (glyphs run′) ≡ drop (b .len .0) (glyphs run)
-  run-kept = ap (drop (b .len .0)) er ∙ turned-drop s e (b .len .0) (glyphs run) o f (run-fits w)
+module _ {phase : Phase} {s e : ℕ} {run other run′ : List ℕ} where
+  pub turns-plain : positionsPhase phase ≡ false → glyphs run′ ≡ turned s e (glyphs run) → Turns phase s e run other run′ other
+  turns-plain h er = record { run-is = er; other-is = rw h }
 
-  pub turn-plain : positionsPhase (b .phase) ≡ false → Rearranges (turned s e) b run other run′ other
-  turn-plain h = record {
-    is = ap (take (b .len .0)) (shown-plain run other run′ other s e er (b .phase) h (w .clean)) ∙ turned-take s e (b .len .0) (shown (b .phase) run other) o f (shown-fits w);
-    run-behind = run-kept;
-    other-behind = refl;
-  }
+  pub turns-positions : {other′ : List ℕ} → positionsPhase phase ≡ true → glyphs run′ ≡ turned s e (glyphs run) → placements other′ ≡ turned s e (placements other) → Turns phase s e run other run′ other′
+  turns-positions h er eo = record { run-is = er; other-is = rw h eo }
 
-  pub turn-positions : {other′ : List ℕ} → positionsPhase (b .phase) ≡ true → placements other′ ≡ turned s e (placements other) → Rearranges (turned s e) b run other run′ other′
-  turn-positions {other′} h eo = record {
-    is = ap (take (b .len .0)) (shown-paired run other run′ other′ s e er (b .phase) h eo (places-same w) o (omega (arith, f, run-fits w)))
-        ∙ turned-take s e (b .len .0) (shown (b .phase) run other) o f (shown-fits w);
-    run-behind = run-kept;
-    other-behind = ap (drop (b .len .0)) eo ∙ turned-drop s e (b .len .0) (placements other) o f (places-fit w);
-  }
+pub turns-rearrange : {phase : Phase} {n s e : ℕ} {run other run′ other′ : List ℕ} → RunOf phase n run other → s ≤ e → e ≤ n → Turns phase s e run other run′ other′ → Rearranges (turned s e) phase n run other run′ other′
+turns-rearrange {phase} {n} {s} {e} {run} {other} {run′} {other′} w o f t = by (positionsPhase phase) refl (t .other-is)
+  where
+    kept : drop n (glyphs run′) ≡ drop n (glyphs run)
+    kept = ap (drop n) (t .run-is) ∙ turned-drop s e n (glyphs run) o f (w .fits)
+
+    by : (x : Bool) → positionsPhase phase ≡ x → placements other′ ≡ cond x (turned s e (placements other)) (placements other) → Rearranges (turned s e) phase n run other run′ other′
+    by true h eo = record {
+      is = ap (take n) (shown-paired run other run′ other′ s e (t .run-is) phase h eo (places-same w) o (omega (arith, f, w .fits))) ∙ turned-take s e n (shown phase run other) o f (shown-fits w);
+      run-behind = kept;
+      other-behind = ap (drop n) eo ∙ turned-drop s e n (placements other) o f (places-fit w);
+    }
+    by false h eo = record {
+      is = ap (take n) (shown-plain run other run′ other′ s e (t .run-is) phase h (w .clean)) ∙ turned-take s e n (shown phase run other) o f (shown-fits w);
+      run-behind = kept;
+      other-behind = ap (drop n) eo;
+    }
 
 -- ---- the calls, by their tests
 module _ (a : Account ℕ) where
-  pub run-refused : notWhole a ≡ true → reverseRun a ≡ refused WrongPhase
-  unfolding reverseRun refuse_when_else_
-  run-refused h = rw h
-
   run-accepted : notWhole a ≡ false → reverseRun a ≡ accepted (withRest (reverse (a .rest)) a)
   unfolding reverseRun refuse_when_else_
   run-accepted h = rw h
-
-  pub clusters-refused : notWhole a ≡ true → reverseClusters a ≡ refused WrongPhase
-  unfolding reverseClusters refuse_when_else_
-  clusters-refused h = rw h
 
   clusters-accepted : notWhole a ≡ false → reverseClusters a ≡ accepted (withRest (regrouped (sizes sameCluster (infos (a .rest))) (a .rest)) a)
   unfolding reverseClusters refuse_when_else_
   clusters-accepted h = rw h
 
   module _ (s e : InputPlace) where
-    pub range-refused : notWhole a ≡ true → reverseRange s e a ≡ refused WrongPhase
-    unfolding reverseRange refuse_when_else_
-    range-refused h = rw h
-
     range-outside : notWhole a ≡ false → outsideInput s e a ≡ true → reverseRange s e a ≡ refused OutOfRange
     unfolding reverseRange refuse_when_else_
     range-outside h k = rw (h, k)
@@ -99,28 +96,71 @@ module _ (a : Account ℕ) where
     range-accepted h k = rw (h, k)
 
 -- ---- what a call leaves
-module _ {b : Buffer} {run other : List ℕ} (w : WholeInput b run other) where
-  pub rearranged : {h : List (Glyph ℕ) → List (Glyph ℕ)} {run′ other′ : List ℕ} → length run′ ≡ length run → length other′ ≡ length other → Rearranges h b run other run′ other′
-      → Acts (λ a. withRest (h (a .rest)) a) b run other b run′ other′
-  rearranged {h} lr lo v = whole-acts w lr lo (v .run-behind) (v .other-behind) h (v .is)
+pub rearranged : {b : Buffer} {run other : List ℕ} → WholeInput b run other → {h : List (Glyph ℕ) → List (Glyph ℕ)} {run′ other′ : List ℕ} → length run′ ≡ length run → length other′ ≡ length other → Rearranges h (b .phase) (b .len .0) run other run′ other′
+    → Acts (λ a. withRest (h (a .rest)) a) b run other b run′ other′
+rearranged w {h} lr lo v = whole-acts w lr lo (v .run-behind) (v .other-behind) h (v .is)
 
-  module _ {run′ other′ : List ℕ} (lr : length run′ ≡ length run) (lo : length other′ ≡ length other) {r : Reply} (er : r ≡ reply b Done) where
-    pub in-reversed : Rearranges (turned 0 (b .len .0)) b run other run′ other′ → MeetsIn (λ capacity a. reverseRun a) b run other r run′ other′
-    in-reversed v =
-        in-acts (rearranged lr lo v)
-        (run-accepted (accountOf b run other) (not-not-whole w)
-        ∙ ap (λ (l : List (Glyph ℕ)). accepted (withRest l (accountOf b run other))) (sym (turned-all (b .len .0) ((accountOf b run other) .rest) (whole-rest w)))) er
+-- ---- 1B and 1D
+module _ (b : Buffer) where
+  on-run-reverse : OnRun (λ capacity a. reverseRun a) b (Turns (b .phase) 0 (b .len .0))
+  unfolding reverseRun refuse_when_else_
+  on-run-reverse = record {
+    whole = record { refuses = λ capacity a h. rw h };
+    done = λ run other run′ other′ w lr lo act.
+      in-acts (rearranged w lr lo (turns-rearrange (whole-run w) zero-le (le-refl (b .len .0)) act))
+      (run-accepted (accountOf b run other) (not-not-whole w)
+      ∙ ap (λ (l : List (Glyph ℕ)). accepted (withRest l (accountOf b run other))) (sym (turned-all (b .len .0) ((accountOf b run other) .rest) (whole-rest w)))) refl;
+  }
 
-    pub in-regrouped : Rearranges (λ l. regrouped (sizes sameCluster (infos l)) l) b run other run′ other′ → MeetsIn (λ capacity a. reverseClusters a) b run other r run′ other′
-    in-regrouped v = in-acts (rearranged lr lo v) (clusters-accepted (accountOf b run other) (not-not-whole w)) er
+  on-run-clusters : OnRun (λ capacity a. reverseClusters a) b (Rearranges (λ l. regrouped (sizes sameCluster (infos l)) l) (b .phase) (b .len .0))
+  unfolding reverseClusters refuse_when_else_
+  on-run-clusters = record {
+    whole = record { refuses = λ capacity a h. rw h };
+    done = λ run other run′ other′ w lr lo act. in-acts (rearranged w lr lo act) (clusters-accepted (accountOf b run other) (not-not-whole w)) refl;
+  }
 
-  module _ (s e : InputPlace) {t : Bool} (et : t ≡ (ltb (e .0) (s .0) || (ltb (b .len .0) (e .0) || ltb (s .0) (goneOf b)))) where
-    pub in-range-outside : {r : Reply} → t ≡ true → r ≡ reply b (No OutOfRange) → MeetsIn (λ capacity a. reverseRange s e a) b run other r run other
-    in-range-outside k er = in-refused OutOfRange (range-outside (accountOf b run other) s e (not-not-whole w) (outside-of (w .held) s e (w .clean) ∙ (sym et ∙ k))) (w .held) er
+module _ {b : Buffer} {f s : List ℕ} {v : Verdict} where
+  pub reverse-decided : TakesWhole b f s v → Decided (λ capacity a. reverseRun a) b f s (settled b v) (v .acts) (RunOf (b .phase) (b .len .0) f s) (Turns (b .phase) 0 (b .len .0))
+  reverse-decided w = takes-decided (on-run-reverse b) w
 
-    pub range-order : t ≡ false → (s .0 ≤ e .0) × (e .0 ≤ b .len .0)
-    range-order k = let m = in-mergeful (w .held) s e (w .clean) et k in (m .order, m .end)
+  pub clusters-decided : TakesWhole b f s v → Decided (λ capacity a. reverseClusters a) b f s (settled b v) (v .acts) (RunOf (b .phase) (b .len .0) f s) (Rearranges (λ l. regrouped (sizes sameCluster (infos l)) l) (b .phase) (b .len .0))
+  clusters-decided w = takes-decided (on-run-clusters b) w
 
-    pub in-range-reversed : {run′ other′ : List ℕ} {r : Reply} → t ≡ false → length run′ ≡ length run → length other′ ≡ length other → r ≡ reply b Done → Rearranges (turned (s .0) (e .0)) b run other run′ other′
-        → MeetsIn (λ capacity a. reverseRange s e a) b run other r run′ other′
-    in-range-reversed k lr lo er v = in-acts (rearranged lr lo v) (range-accepted (accountOf b run other) s e (not-not-whole w) (outside-of (w .held) s e (w .clean) ∙ (sym et ∙ k))) er
+-- ---- 1C
+on-whole-range : (s e : InputPlace) → OnWhole (λ capacity a. reverseRange s e a)
+unfolding reverseRange refuse_when_else_
+on-whole-range s e = record { refuses = λ capacity a h. rw h }
+
+outside-is : (s e : InputPlace) {b : Buffer} {run other : List ℕ} {x y : Bool} → WholeInput b run other → x ≡ (ltb (e .0) (s .0) || (ltb (b .len .0) (e .0) || ltb (s .0) (goneOf b))) → x ≡ y → outsideInput s e (accountOf b run other) ≡ y
+outside-is s e w ex p = outside-of (w .held) s e (w .clean) ∙ (sym ex ∙ p)
+
+module _ {start stop : InputPlace} {b : Buffer} {f s : List ℕ} {v : Verdict} where
+  pub range-unsound : sound b f s ≡ false → Leaves b false (No Contradiction) v → ReversesRange start stop b f s v
+  range-unsound h w = record { is = decided-unsound h w }
+
+  module _ {t : Bool} (h : sound b f s ≡ true) (et : t ≡ wholeTest b) where
+    pub range-not-whole : t ≡ true → Leaves b false (No WrongPhase) v → ReversesRange start stop b f s v
+    range-not-whole k w = record { is = decided-refused h (whole-refuses (on-whole-range start stop) et k) w }
+
+    module _ {x : Bool} (k : t ≡ false) (ex : x ≡ (ltb (stop .0) (start .0) || (ltb (b .len .0) (stop .0) || ltb (start .0) (goneOf b)))) where
+      pub range-over : x ≡ true → Leaves b false (No OutOfRange) v → ReversesRange start stop b f s v
+      range-over p w = record { is = decided-refused h (record { law = λ run other l. let u = lying-whole et k l in range-outside (accountOf b run other) start stop (not-not-whole u) (outside-is start stop u ex p) }) w }
+
+      pub range-ahead : x ≡ false → Leaves b true Done v → ReversesRange start stop b f s v
+      range-ahead p w =
+          let u = sound-whole h et k in
+          let m = in-mergeful (u .held) start stop (u .clean) ex p in
+          record { is = decided-does h (record {
+            near = near-same b;
+            none = λ c. absurd (false≢true (sym c));
+            law = λ run other run′ other′ l lr lo act.
+              let q = lying-whole et k l in
+              in-acts (rearranged q lr lo (turns-rearrange (whole-run q) (m .order) (m .end) act)) (range-accepted (accountOf b run other) start stop (not-not-whole q) (outside-is start stop q ex p)) refl;
+          }) (λ c. (m .order, run-shorter (whole-run u) (m .end))) w }
+
+  module _ (w : ReversesRange start stop b f s v) (t : v .acts ≡ true) where
+    pub range-order : start .0 ≤ stop .0
+    range-order = w .is .asked t .0
+
+    pub range-run : RunOf (b .phase) (stop .0) f s
+    range-run = w .is .asked t .1

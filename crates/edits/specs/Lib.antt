@@ -15,6 +15,8 @@ pub mod Acts
 pub mod MergeActs
 pub mod Wholes
 pub mod Fills
+pub mod Relabels
+pub mod Propagating
 pub mod Reversals
 pub mod Sorts
 pub mod Underway

@@ -1,13 +1,22 @@
--- What the functions below the reversals leave.
-use mathlib.Core.{Path._≡_, List.List}
-use Prim.Native.Nat.{ℕ}
+-- What `reverse_range` comes to, and what the functions below the reversals leave.
+use mathlib.Core.{Path._≡_, Bool.cond, List.List}
+use Prim.Native.Nat.{ℕ, _≤_}
 use lib.{ListN.take, ListN.drop}
-use Rattle.records.specs.{Glyphs.Glyph, View.glyphs, View.placements}
-use Rattle.lists.specs.declared.{Buffer.Buffer}
-use Rattle.lists.specs.{State.shown}
+use Rattle.records.specs.{Phase, InputPlace, Glyphs.Glyph, View.glyphs, View.placements}
+use Rattle.lists.specs.declared.{Buffer.Buffer, Verdict.Verdict}
+use Rattle.lists.specs.{Account.positionsPhase, State.shown, Turned.turned, Verdicts.settled, Verdicts.Decided}
+use Rattle.edits.specs.{WholeRun.reverseRange, Wholes.RunOf}
 
--- h on the run, whose positions go with their glyphs, and nothing from place `len` on
-pub record Rearranges (h : List (Glyph ℕ) → List (Glyph ℕ)) (b : Buffer) (run other run′ other′ : List ℕ) : Type 0 where
-  pub is : take (b .len .0) (shown (b .phase) run′ other′) ≡ h (take (b .len .0) (shown (b .phase) run other))
-  pub run-behind : drop (b .len .0) (glyphs run′) ≡ drop (b .len .0) (glyphs run)
-  pub other-behind : drop (b .len .0) (placements other′) ≡ drop (b .len .0) (placements other)
+-- a range the other way round; positions, where there are any, go with their glyphs
+pub record Turns (phase : Phase) (s e : ℕ) (run other run′ other′ : List ℕ) : Type 0 where
+  pub run-is : glyphs run′ ≡ turned s e (glyphs run)
+  pub other-is : placements other′ ≡ cond (positionsPhase phase) (turned s e (placements other)) (placements other)
+
+-- h on a run of n glyphs, whose positions go with their glyphs, and nothing from place n on
+pub record Rearranges (h : List (Glyph ℕ) → List (Glyph ℕ)) (phase : Phase) (n : ℕ) (run other run′ other′ : List ℕ) : Type 0 where
+  pub is : take n (shown phase run′ other′) ≡ h (take n (shown phase run other))
+  pub run-behind : drop n (glyphs run′) ≡ drop n (glyphs run)
+  pub other-behind : drop n (placements other′) ≡ drop n (placements other)
+
+pub record ReversesRange (start stop : InputPlace) (b : Buffer) (f s : List ℕ) (v : Verdict) : Type 0 where
+  pub is : Decided (λ capacity a. reverseRange start stop a) b f s (settled b v) (v .acts) ((start .0 ≤ stop .0) × RunOf (b .phase) (stop .0) f s) (Turns (b .phase) (start .0) (stop .0))

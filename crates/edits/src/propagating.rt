@@ -1,69 +1,78 @@
 // The flags of neighbours of one cluster: call 23.
 ghost use mathlib.Core.Path.{_≡_};
 ghost use mathlib.Core.List.{map};
-ghost use Prim.Native.Nat.{_≤_};
-ghost use lib.ListN.{length};
+ghost use Prim.Native.Nat.{_%_, _≤_, _<_};
+ghost use lib.ListN.{length, getD, set};
 ghost use lib.Seq.{slice};
-ghost use Rattle.records.specs.Glyphs.{Info, withMask};
+ghost use Rattle.records.specs.Glyphs.{Info, change, withMask};
 ghost use Rattle.records.specs.Ranges.{infos, edit};
-ghost use Rattle.records.specs.View.{glyphs};
-ghost use Rattle.lists.specs.Account.{withRest};
+ghost use Rattle.records.specs.View.{glyphs, zeroGlyph};
 ghost use Rattle.lists.specs.Masks.{joinedLow};
-ghost use Rattle.lists.specs.State.{Held};
-ghost use Rattle.lists.specs.Contract.{Meets, MeetsIn};
+ghost use Rattle.lists.specs.Contract.{Meets};
+ghost use Rattle.lists.specs.Verdicts.{Sided};
 ghost use Rattle.edits.specs.FlagTable.{flagTable};
-ghost use Rattle.edits.specs.Groups.{sizes, sameCluster, settled, propagated, propagateFlags};
-ghost use Rattle.edits.specs.Acts.{Acts};
-ghost use Rattle.edits.specs.Wholes.{WholeInput};
+ghost use Rattle.edits.specs.Groups.{settled, propagateFlags};
+ghost use Rattle.edits.specs.Propagating.{Propagates, PropagatesRun};
 use super::flag_table;
 use super::whole;
 use lists::Buffer;
 use lists::Reply;
-use lists::state;
-use records::Refusal;
+use lists::verdicts;
+
+// The mask of one glyph becomes what the table has at its bits.
+fn propagate_one(run: &mut [u32], table: &[u32], wants: u32, s: usize)
+    requires { ⌜ (now table ≡ flagTable) × (s < length (glyphs (now run))) ⌝ }
+    ensures { λ r. ⌜ glyphs (now (run .exit)) ≡ set (glyphs (now (run .entry))) s (change (withMask (settled wants (getD (glyphs (now (run .entry))) s zeroGlyph .info .mask % 8))) (getD (glyphs (now (run .entry))) s zeroGlyph)) ⌝ }
+{
+    let mask = flag_table::group_mask(table, wants, records::glyphs::mask_at(run, s) % 8);
+    records::glyphs::set_mask(run, s, mask);
+}
 
 // The masks of a group become what the table has at their joined bits.
 fn propagate_group(run: &mut [u32], table: &[u32], wants: u32, s: usize, e: usize)
     requires { ⌜ (now table ≡ flagTable) × (s ≤ e) × (e ≤ length (glyphs (now run))) ⌝ }
     ensures { λ r. ⌜ glyphs (now (run .exit)) ≡ edit s e (withMask (settled wants (joinedLow (slice s e (map (λ (i : Info). i .mask) (infos (glyphs (now (run .entry))))))))) (glyphs (now (run .entry))) ⌝ }
 {
+    if e - s == 1 {
+        propagate_one(run, table, wants, s);
+        return;
+    }
     let mask = flag_table::group_mask(table, wants, lists::masks::joined_masks(run, s, e));
     lists::masks::fill_masks(run, s, e, mask);
 }
 
 // The same of each group of one cluster, from the left. The table is lent, so that it is laid out once a call.
-fn propagate_each(b: Buffer, run: &mut [u32], other: &[u32], table: &[u32])
-    requires { ⌜ (now table ≡ flagTable) × WholeInput b (now run) (now other) ⌝ }
-    ensures { λ r. ⌜ Acts (λ a. withRest (propagated (b .wants) (sizes sameCluster (infos (a .rest))) 0 (a .rest)) a) b (now (run .entry)) (now (other .entry)) b (now (run .exit)) (now (other .entry)) ⌝ }
+fn propagate_each(run: &mut [u32], table: &[u32], wants: u32, n: usize)
+    requires { ⌜ (now table ≡ flagTable) × (n ≤ length (glyphs (now run))) ⌝ }
+    ensures { λ r. ⌜ Propagates wants n (now (run .entry)) (now (run .exit)) ⌝ }
 {
     let mut s = 0;
-    while s < b.len.0 {
-        let e = lists::groups::cluster_end(run, s, b.len.0);
-        propagate_group(run, table, b.wants, s, e);
+    while s < n {
+        let e = lists::groups::cluster_end(run, s, n);
+        propagate_group(run, table, wants, s, e);
         s = e;
     }
 }
 
-fn propagate_in(b: Buffer, run: &mut [u32], other: &mut [u32]) -> Reply
-    requires { ⌜ Held b (now run) (now other) ⌝ }
-    ensures { λ r. ⌜ MeetsIn (λ capacity a. propagateFlags a) b (now (run .entry)) (now (other .entry)) r (now (run .exit)) (now (other .exit)) ⌝ }
+// The same, wherever the run lies.
+fn propagate_by(first: &mut [u32], second: &mut [u32], swapped: bool, wants: u32, n: usize)
+    requires { ⌜ (n ≤ length (glyphs (now first))) × (n ≤ length (glyphs (now second))) ⌝ }
+    ensures { λ r. ⌜ Sided swapped (PropagatesRun wants n) (now (first .entry)) (now (second .entry)) (now (first .exit)) (now (second .exit)) ⌝ }
 {
-    if whole::not_whole(b) {
-        return state::refusal(b, Refusal::WrongPhase);
+    if swapped {
+        propagate_each(second, &flag_table::FLAG_TABLE, wants, n);
+    } else {
+        propagate_each(first, &flag_table::FLAG_TABLE, wants, n);
     }
-    propagate_each(b, run, other, &flag_table::FLAG_TABLE);
-    state::accepted(b)
 }
 
 // 23
 pub fn propagate_flags(b: Buffer, first: &mut [u32], second: &mut [u32]) -> Reply
     ensures { λ r. ⌜ Meets (λ capacity a. propagateFlags a) b (now (first .entry)) (now (second .entry)) r (now (first .exit)) (now (second .exit)) ⌝ }
 {
-    if state::is_sound(b, first, second) {
-        if b.swapped {
-            return propagate_in(b, second, first);
-        }
-        return propagate_in(b, first, second);
+    let v = whole::whole_verdict(b, first, second);
+    if v.acts {
+        propagate_by(first, second, b.swapped, b.wants, b.len.0);
     }
-    state::refusal(b, Refusal::Contradiction)
+    verdicts::settled(b, v)
 }

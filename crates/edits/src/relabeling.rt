@@ -9,13 +9,18 @@ ghost use lib.ListN.{length, take, drop, getD, set};
 ghost use Rattle.records.specs.Glyphs.{change};
 ghost use Rattle.records.specs.Ranges.{edit, is};
 ghost use Rattle.records.specs.View.{glyphs, zeroGlyph};
-ghost use Rattle.lists.specs.State.{Held};
-ghost use Rattle.lists.specs.Contract.{Meets, MeetsIn};
+ghost use Rattle.lists.specs.Contract.{Meets};
+ghost use Rattle.lists.specs.Verdicts.{Sided};
 ghost use Rattle.edits.specs.WholeRun.{masked, setMasks, numbered, resetClusters};
+ghost use Rattle.edits.specs.Wholes.{RunBecomes};
+ghost use Rattle.edits.specs.Relabels.{SetsMasks};
 use super::whole;
 use lists::Buffer;
 use lists::Reply;
+use lists::Verdict;
 use lists::state;
+use lists::verdicts;
+use records::Answer;
 use records::Refusal;
 
 // Start 0 and the largest end stand for everywhere.
@@ -69,27 +74,41 @@ fn mask_glyphs(ws: &mut [u32], n: usize, value: u32, mask: u32, start: u32, end:
     }
 }
 
-fn set_masks_in(
-    b: Buffer,
-    run: &mut [u32],
-    other: &mut [u32],
+fn masks_verdict(b: Buffer, first: &[u32], second: &[u32], mask: u32) -> Verdict
+    ensures { λ v. ⌜ SetsMasks mask b (now (first .entry)) (now (second .entry)) v ⌝ }
+{
+    if state::is_sound(b, first, second) {
+        if whole::not_whole(b) {
+            return verdicts::refused(b, Refusal::WrongPhase);
+        }
+        if mask == 0 {
+            return verdicts::verdict(b, false, Answer::Done);
+        }
+        let paid = state::with_limits(b, records::counters::pay(b.limits, b.len.0));
+        return verdicts::verdict(paid, true, Answer::Done);
+    }
+    verdicts::refused(b, Refusal::Contradiction)
+}
+
+// The first n glyphs, wherever the run lies.
+fn mask_by(
+    first: &mut [u32],
+    second: &mut [u32],
+    swapped: bool,
+    n: usize,
     value: u32,
     mask: u32,
     start: u32,
     end: u32,
-) -> Reply
-    requires { ⌜ Held b (now run) (now other) ⌝ }
-    ensures { λ r. ⌜ MeetsIn (λ capacity a. setMasks value mask start end a) b (now (run .entry)) (now (other .entry)) r (now (run .exit)) (now (other .exit)) ⌝ }
+)
+    requires { ⌜ (n ≤ length (glyphs (now first))) × (n ≤ length (glyphs (now second))) ⌝ }
+    ensures { λ r. ⌜ Sided swapped (RunBecomes (edit 0 n (masked value mask start end))) (now (first .entry)) (now (second .entry)) (now (first .exit)) (now (second .exit)) ⌝ }
 {
-    if whole::not_whole(b) {
-        return state::refusal(b, Refusal::WrongPhase);
+    if swapped {
+        mask_glyphs(second, n, value, mask, start, end);
+    } else {
+        mask_glyphs(first, n, value, mask, start, end);
     }
-    if mask == 0 {
-        return state::accepted(b);
-    }
-    let len = b.len.0;
-    mask_glyphs(run, len, value, mask, start, end);
-    state::accepted(state::with_limits(b, records::counters::pay(b.limits, len)))
 }
 
 // 1A
@@ -104,13 +123,11 @@ pub fn set_masks(
 ) -> Reply
     ensures { λ r. ⌜ Meets (λ capacity a. setMasks value mask start end a) b (now (first .entry)) (now (second .entry)) r (now (first .exit)) (now (second .exit)) ⌝ }
 {
-    if state::is_sound(b, first, second) {
-        if b.swapped {
-            return set_masks_in(b, second, first, value, mask, start, end);
-        }
-        return set_masks_in(b, first, second, value, mask, start, end);
+    let v = masks_verdict(b, first, second, mask);
+    if v.acts {
+        mask_by(first, second, b.swapped, b.len.0, value, mask, start, end);
     }
-    state::refusal(b, Refusal::Contradiction)
+    verdicts::settled(b, v)
 }
 
 // The first n glyphs get their places as clusters.
@@ -125,26 +142,25 @@ fn number_clusters(ws: &mut [u32], n: usize)
     }
 }
 
-fn reset_in(b: Buffer, run: &mut [u32], other: &mut [u32]) -> Reply
-    requires { ⌜ Held b (now run) (now other) ⌝ }
-    ensures { λ r. ⌜ MeetsIn (λ capacity a. resetClusters a) b (now (run .entry)) (now (other .entry)) r (now (run .exit)) (now (other .exit)) ⌝ }
+// The same, wherever the run lies.
+fn number_by(first: &mut [u32], second: &mut [u32], swapped: bool, n: usize)
+    requires { ⌜ (n ≤ length (glyphs (now first))) × (n ≤ length (glyphs (now second))) × (n ≤ 1048576) ⌝ }
+    ensures { λ r. ⌜ Sided swapped (RunBecomes (λ l. numbered 0 (take n l) ++ drop n l)) (now (first .entry)) (now (second .entry)) (now (first .exit)) (now (second .exit)) ⌝ }
 {
-    if whole::not_whole(b) {
-        return state::refusal(b, Refusal::WrongPhase);
+    if swapped {
+        number_clusters(second, n);
+    } else {
+        number_clusters(first, n);
     }
-    number_clusters(run, b.len.0);
-    state::accepted(b)
 }
 
 // 1F
 pub fn reset_clusters(b: Buffer, first: &mut [u32], second: &mut [u32]) -> Reply
     ensures { λ r. ⌜ Meets (λ capacity a. resetClusters a) b (now (first .entry)) (now (second .entry)) r (now (first .exit)) (now (second .exit)) ⌝ }
 {
-    if state::is_sound(b, first, second) {
-        if b.swapped {
-            return reset_in(b, second, first);
-        }
-        return reset_in(b, first, second);
+    let v = whole::whole_verdict(b, first, second);
+    if v.acts {
+        number_by(first, second, b.swapped, b.len.0);
     }
-    state::refusal(b, Refusal::Contradiction)
+    verdicts::settled(b, v)
 }

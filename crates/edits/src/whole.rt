@@ -3,8 +3,13 @@ ghost use mathlib.Core.Path.{_≡_};
 ghost use mathlib.Core.Bool.{_||_};
 ghost use lib.Dec.{ltb};
 ghost use Rattle.lists.specs.Account.{outputPhase, spoiledPhase};
+ghost use Rattle.edits.specs.Wholes.{TakesWhole};
 use lists::Buffer;
+use lists::Verdict;
 use lists::state;
+use lists::verdicts;
+use records::Answer;
+use records::Refusal;
 
 // Whether there is output, or no list, or a cursor past the start.
 pub fn not_whole(b: Buffer) -> bool
@@ -18,4 +23,17 @@ pub fn not_whole(b: Buffer) -> bool
         return true;
     }
     0 < b.idx.0
+}
+
+// 1B, 1D, 1F and 23: nothing else refuses them.
+pub(crate) fn whole_verdict(b: Buffer, first: &[u32], second: &[u32]) -> Verdict
+    ensures { λ v. ⌜ TakesWhole b (now (first .entry)) (now (second .entry)) v ⌝ }
+{
+    if state::is_sound(b, first, second) {
+        if not_whole(b) {
+            return verdicts::refused(b, Refusal::WrongPhase);
+        }
+        return verdicts::verdict(b, true, Answer::Done);
+    }
+    verdicts::refused(b, Refusal::Contradiction)
 }

@@ -1,63 +1,23 @@
-use mathlib.Core.Path.{sym, _∙_}
-use Rattle.lists.proofs.Accounts.{sound-held, held-turned}
-use Rattle.lists.proofs.Calls.{shell-first, shell-second, shell-unsound}
+use mathlib.Core.Logic.{⊎-elim}
+use Prim.Native.Nat.{zero-le}
+use Rattle.lists.proofs.Decisions.{end-acted, end-still, kept-length}
+use Rattle.edits.proofs.ReverseCalls.{reverse-decided}
+use Rattle.edits.proofs.WholeCalls.{takes-run}
 use borrow.Author.Needs.{needs}
 use Rattle.edits.proofs.reversing.reverse.Statement.{statement}
 use Rattle.edits.proofs.reversing.reverse.Tie as tie
 
-is-sound-requires : tie.Need-is-sound-requires
-is-sound-requires c κs = search needs
-
-reverse-in-requires : tie.Need-reverse-in-requires
-reverse-in-requires c κs = held-turned _ _ _ (sound-held _ _ _ (sym (c .before .before .before .before .is-sound .ensures .is) ∙ c .before .before .before .if1 .taken))
+turn-by-requires : tie.Need-turn-by-requires
+turn-by-requires c κs = search (zero-le, takes-run)
 
 same-length : tie.Need-same-length
-same-length c = search needs
+same-length c = ⊎-elim (λ w. search (kept-length, needs)) (λ w. search (kept-length, needs)) (c .before .if1 .came)
 
 same-length-2 : tie.Need-same-length-2
-same-length-2 c = search needs
+same-length-2 c = ⊎-elim (λ w. search (kept-length, needs)) (λ w. search (kept-length, needs)) (c .before .if1 .came)
 
 returns : tie.Need-returns
-returns c = let call = c .before .before .before .before .reverse-in in shell-second (sym (c .before .before .before .before .before .before .before .before .before .is-sound .ensures .is) ∙ c .before .before .before .before .before .before .before .before .if1 .taken) (call .kept .1 .1 .0) (call .kept .1 .0) (c .before .before .before .before .before .before .before .if2 .taken) (call .ensures)
-
-reverse-in-requires-2 : tie.Need-reverse-in-requires-2
-reverse-in-requires-2 c κs = sound-held _ _ _ (sym (c .before .before .before .before .is-sound .ensures .is) ∙ c .before .before .before .if1 .taken)
-
-same-length-3 : tie.Need-same-length-3
-same-length-3 c = search needs
-
-same-length-4 : tie.Need-same-length-4
-same-length-4 c = search needs
-
-returns-2 : tie.Need-returns-2
-returns-2 c = let call = c .before .before .before .before .reverse-in2 in shell-first (sym (c .before .before .before .before .before .before .before .before .before .is-sound .ensures .is) ∙ c .before .before .before .before .before .before .before .before .if1 .taken) (call .kept .1 .0) (call .kept .1 .1 .0) (c .before .before .before .before .before .before .before .if2 .left) (call .ensures)
-
-refusal-requires : tie.Need-refusal-requires
-refusal-requires c κs = search needs
-
-same-length-5 : tie.Need-same-length-5
-same-length-5 c = search needs
-
-same-length-6 : tie.Need-same-length-6
-same-length-6 c = search needs
-
-returns-3 : tie.Need-returns-3
-returns-3 c = shell-unsound (sym (c .before .before .is-sound .ensures .is) ∙ c .before .if1 .left) (c .refusal .ensures)
+returns c = ⊎-elim (λ w. search (end-acted, reverse-decided)) (λ w. search (end-still, reverse-decided)) (c .before .if1 .came)
 
 pub reverse-spec : {M : Type 1} → statement M
-reverse-spec =
-    tie.close
-    (tie.spec
-    is-sound-requires
-    reverse-in-requires
-    same-length
-    same-length-2
-    returns
-    reverse-in-requires-2
-    same-length-3
-    same-length-4
-    returns-2
-    refusal-requires
-    same-length-5
-    same-length-6
-    returns-3)
+reverse-spec = tie.close (tie.spec (search needs) turn-by-requires (search needs) same-length same-length-2 returns)

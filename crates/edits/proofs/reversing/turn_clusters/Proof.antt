@@ -1,68 +1,42 @@
--- The groups up to place i are the other way round.
-use mathlib.Core.Path.{_∙_}
-use Prim.Native.Nat.{_-_}
-use native.Mathlib.Omega.{arith}
+use Prim.Native.Nat.{_-_, zero-le}
 use Rattle.edits.specs.Groups.{sameCluster}
-use Rattle.edits.proofs.ReverseCalls.{run-fits}
-use Rattle.edits.proofs.GroupTurns.{GroupTurning, groups-none, groups-more, groups-done, at-cluster}
+use Rattle.edits.proofs.GroupTurns.{GroupTurning, groups-none, groups-more, clusters-done, at-cluster, turning-order, turning-run, turning-less}
+use borrow.Author.Needs.{needs}
 use Rattle.edits.proofs.reversing.turn_clusters.Statement.{statement}
 use Rattle.edits.proofs.reversing.turn_clusters.Tie as tie
 
 abbrev Inv-loop : tie.InvT-loop
-Inv-loop b run₀ other₀ len i₀ run other i = GroupTurning sameCluster b run₀ other₀ run other i
+Inv-loop run₀ other₀ phase n i₀ run other i = GroupTurning sameCluster phase n run₀ other₀ run other i
 
 abbrev μ-loop : tie.MeasureT-loop
-μ-loop b run₀ other₀ len i₀ run other i = len - i
+μ-loop run₀ other₀ phase n i₀ run other i = n - i
 
 loop-holds : tie.Need-loop-holds Inv-loop μ-loop
-loop-holds c = groups-none (c .before .before .pre)
+loop-holds c = search groups-none
 
 cluster-end-requires : tie.Need-cluster-end-requires Inv-loop μ-loop
-cluster-end-requires c κs = (c .before .loop-test .taken, run-fits (c .before .before .loop .inv .whole))
+cluster-end-requires c κs = search needs
 
 turn-range-requires : tie.Need-turn-range-requires Inv-loop μ-loop
-turn-range-requires c κs =
-    let inv = c .before .before .before .before .before .loop .inv in
-    let group = at-cluster inv (c .before .before .before .before .loop-test .taken) (c .before .before .cluster-end .ensures) in
-    (inv .whole, omega (arith, group .after), group .inside)
+turn-range-requires c κs = search (turning-order, turning-run, at-cluster)
 
 loop-less : tie.Need-loop-less Inv-loop μ-loop
-loop-less c =
-    let inv = c .before .before .before .before .before .before .before .before .before .before .loop .inv in
-    let group = at-cluster inv (c .before .before .before .before .before .before .before .before .before .loop-test .taken) (c .before .before .before .before .before .before .before .cluster-end .ensures) in
-    omega (arith, group .after, group .inside)
+loop-less c = search (turning-less, at-cluster)
 
 loop-again : tie.Need-loop-again Inv-loop μ-loop
-loop-again c =
-    let inv = c .before .before .before .before .before .before .before .before .before .before .loop .inv in
-    let group = at-cluster inv (c .before .before .before .before .before .before .before .before .before .loop-test .taken) (c .before .before .before .before .before .before .before .cluster-end .ensures) in
-    let call = c .before .before .before .before .turn-range in
-    groups-more inv group (call .ensures) (call .kept .1 .0) (call .kept .1 .1 .0)
+loop-again c = search (groups-more, at-cluster)
 
 turn-range-requires-2 : tie.Need-turn-range-requires-2 Inv-loop μ-loop
-turn-range-requires-2 c κs = (c .before .before .before .loop .inv .whole, omega arith, omega arith)
+turn-range-requires-2 c κs = search (zero-le, needs)
 
 same-length : tie.Need-same-length Inv-loop μ-loop
-same-length c = c .before .before .before .before .turn-range2 .kept .1 .0 ∙ c .before .before .before .before .before .before .before .before .loop .inv .run-len
+same-length c = search needs
 
 same-length-2 : tie.Need-same-length-2 Inv-loop μ-loop
-same-length-2 c = c .before .before .before .before .turn-range2 .kept .1 .1 .0 ∙ c .before .before .before .before .before .before .before .before .loop .inv .other-len
+same-length-2 c = search needs
 
 returns : tie.Need-returns Inv-loop μ-loop
-returns c = groups-done (c .before .before .before .before .before .before .before .before .loop .inv) (c .before .before .before .before .before .before .before .loop-test .left) (c .before .before .before .before .turn-range2 .ensures)
+returns c = search clusters-done
 
 pub turn-clusters-spec : {M : Type 1} → statement M
-turn-clusters-spec =
-    tie.close
-    (tie.spec
-    Inv-loop
-    μ-loop
-    loop-holds
-    cluster-end-requires
-    turn-range-requires
-    loop-less
-    loop-again
-    turn-range-requires-2
-    same-length
-    same-length-2
-    returns)
+turn-clusters-spec = tie.close (tie.spec Inv-loop μ-loop loop-holds cluster-end-requires turn-range-requires loop-less loop-again turn-range-requires-2 same-length same-length-2 returns)
