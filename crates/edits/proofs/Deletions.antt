@@ -1,20 +1,20 @@
--- Deletion, below its shell: from what the code tests and what its parts promise to the call on the account.
-use mathlib.Core.{Path._≡_, Path.refl, Path.sym, Path.ap, Path._∙_, Path.subst, Bool.Bool, Bool.true, Bool.false, Bool.cond, Bool._&&_, Bool._||_, List.List, List.[], List._∷_, List.reverse-append}
+-- Deletion, of a buffer's lists: from what the code tests and what its parts promise to the call on the account.
+use mathlib.Core.{Path._≡_, Path.refl, Path.sym, Path.ap, Path._∙_, Bool.Bool, Bool.true, Bool.false, Bool.cond, Bool._&&_, Bool._||_, List.List, List.[], List._∷_, List.reverse-append}
 use Prim.Native.Nat.{ℕ, suc, _+_, _-_, _≤_, _<_}
 use native.Mathlib.Omega.{arith}
 use borrow.Author.Tests.{le-ltb, lt-ltb}
 use lib.{Dec.eqb, Dec.ltb, ListN.length, ListN.take, ListN.drop, ListN.getD, Seq.slice, Seq.slice-cons}
-use Rattle.records.specs.{WrongPhase, OutOfRange, Done, No, Limits, Glyphs.Glyph, Glyphs.Info, Glyphs.blank, Glyphs.setCluster, Ranges.clusters, Ranges.edit, Ranges.tails, Ranges.infos, Ranges.is, Ranges.first, Ranges.last, View.glyphs, View.seen, View.zeroGlyph, View.wordsFrom}
+use Rattle.records.specs.{Limits, Glyphs.Glyph, Glyphs.Info, Glyphs.blank, Glyphs.setCluster, Ranges.clusters, Ranges.edit, Ranges.tails, Ranges.infos, Ranges.is, Ranges.first, Ranges.last, View.glyphs, View.seen, View.zeroGlyph}
 use Rattle.records.specs.declared.{Glyph.Glyph as Words}
 use Rattle.records.proofs.{View.length-clusters, View.whole-same, View.cluster-of, View.seen-mask, View.seen-cluster, Renaming.append-map}
-use Rattle.lists.specs.declared.{Buffer.Buffer, Reply.Reply}
-use Rattle.lists.specs.{Account.readLevel, Account.Account, Account.outputPhase, Account.hasOutput, Account.outLen, Account.withDone, Contract.MeetsIn, Cursor.dropping, Results.refused, Results.accepted, Results.refuse_when_else_, State.accountOf, State.goneOf, State.Held, States.reply, States.atPlaces, States.withLimitsOf}
-use Rattle.lists.proofs.{Accounts.output-clean, Accounts.output-of, Accounts.out-of, Accounts.held-lengths, Calls.in-refused, Calls.in-accepted, Copying.range-same, Simple.dropping-of}
-use Rattle.edits.specs.{Acts.Acts, Acts.Mergeful, Deletes.Deletable, Deletes.nextHas, Deletes.lastHas, Deletes.inheriting, Deleting.current, Deleting.inherited, Deleting.survives, Deleting.deleted, Deleting.deleteGlyph, Deleting.mergedForward, Merging.merge, Merging.clustersMerge}
-use Rattle.lists.proofs.Outputs.{output, output-cong, gone-output, output-account, beyond}
+use Rattle.lists.specs.declared.{Buffer.Buffer}
+use Rattle.lists.specs.{Account.readLevel, Account.Account, Account.outLen, Account.withDone, Cursor.dropping, State.accountOf, State.goneOf, State.Held, States.atPlaces, States.withLimitsOf}
+use Rattle.lists.proofs.{Accounts.output-clean, Accounts.out-of, Accounts.held-lengths, Copying.range-same, Simple.dropping-of}
+use Rattle.edits.specs.{Acts.Acts, Acts.Mergeful, Deletes.Deletable, Deletes.nextHas, Deletes.lastHas, Deletes.inheriting, Deleting.current, Deleting.inherited, Deleting.survives, Deleting.deleted, Deleting.mergedForward, Merging.merge, Merging.clustersMerge}
+use Rattle.lists.proofs.Outputs.{output-cong, gone-output, output-account, beyond}
 use Rattle.edits.proofs.Holding.{edit-take, edit-drop-behind, clusters-take}
-use Rattle.edits.proofs.Writings.{rest-first, rest-length, rest-short, rest-long, done-last}
-use Rattle.edits.proofs.Replacements.{merge-places, limits-first}
+use Rattle.edits.proofs.Writings.{rest-first, rest-length, done-last}
+use Rattle.edits.proofs.Replacements.{merge-places}
 
 -- ---- whether the cluster survives
 module _ {b : Buffer} {run other : List ℕ} (v : Deletable b run other) where
@@ -126,64 +126,39 @@ module _ {b : Buffer} {run other : List ℕ} (v : Deletable b run other) where
         forward k ∙ rw (t, p)
 
 -- ---- the drop
-module _ {b : Buffer} {run other : List ℕ} (v : Deletable b run other) where
-  limits-output : (l : Limits) → outputPhase ((withLimitsOf l b) .phase) ≡ true
+dropped-held : {b : Buffer} {run other : List ℕ} → Deletable b run other → Held (atPlaces (b .idx .0 + 1) (b .len .0) (b .«out_len» .0) b) run other
+unfolding atPlaces
+dropped-held {b} v = record {
+  idx-in = omega (arith, v .some);
+  len-in = v .held .len-in;
+  out-in = v .held .out-in;
+  all-in = v .held .all-in;
+  most = v .held .most;
+  same = v .held .same;
+  whole = v .held .whole;
+  behind = λ p s. let k : b .«out_len» .0 ≤ b .idx .0 = v .held .behind p s in omega arith;
+  none = v .held .none;
+}
+
+-- x was done, at the cost of the limits l
+module _ {b : Buffer} {run other : List ℕ} (v : Deletable b run other) {x : Account ℕ → Account ℕ} (l : Limits) {run₁ other₁ : List ℕ}
+    (u : Acts x b run other (withLimitsOf l b) run₁ other₁) (lr : length run₁ ≡ length run) (lo : length other₁ ≡ length other) where
+  still : Deletable (withLimitsOf l b) run other
   unfolding withLimitsOf
-  limits-output l = v .output
+  still = record { held = u .held; output = v .output; some = v .some }
 
-  dropped-held : Held (atPlaces (b .idx .0 + 1) (b .len .0) (b .«out_len» .0) b) run other
-  unfolding atPlaces
-  dropped-held = record {
-    idx-in = omega (arith, v .some);
-    len-in = v .held .len-in;
-    out-in = v .held .out-in;
-    all-in = v .held .all-in;
-    most = v .held .most;
-    same = v .held .same;
-    whole = v .held .whole;
-    behind = λ p s. let k : b .«out_len» .0 ≤ b .idx .0 = v .held .behind p s in omega arith;
-    none = v .held .none;
-  }
-
-pub same-limits : (b : Buffer) {q : Buffer} → q ≡ b → q ≡ withLimitsOf (q .limits) b
-unfolding withLimitsOf
-same-limits b e = e ∙ ap (λ (k : Buffer). withLimitsOf (k .limits) b) (sym e)
-
-module _ {b : Buffer} {run other : List ℕ} (v : Deletable b run other) {x : Account ℕ → Account ℕ} {q : Buffer} {run₁ other₁ : List ℕ}
-    (u : Acts x b run other q run₁ other₁) (w : q ≡ withLimitsOf (q .limits) b) (lr : length run₁ ≡ length run) (lo : length other₁ ≡ length other) where
-  pub still-some : q .idx .0 < q .len .0
-  still-some = subst (λ (k : Buffer). k .idx .0 < k .len .0) (sym w) (limits-first b (q .limits) (v .some))
-
-  still : Deletable q run other
-  still = record { held = u .held; output = subst (λ (k : Buffer). outputPhase (k .phase) ≡ true) (sym w) (limits-output v (q .limits)); some = still-some }
-
-  delete-acts : {r : Buffer} → deleted (accountOf b run other) ≡ dropping 1 (x (accountOf b run other)) → r ≡ atPlaces (q .idx .0 + 1) (q .len .0) (q .«out_len» .0) q → Acts (λ a. deleted a) b run other r run₁ other₁
-  unfolding atPlaces
-  delete-acts e er = rw er (record {
-    is = dropping-of q run₁ other₁ (held-lengths q run other run₁ other₁ lr lo (u .held)) (still .output) 1 ∙ (ap (dropping 1) (u .is) ∙ sym e);
+  pub deletes : deleted (accountOf b run other) ≡ dropping 1 (x (accountOf b run other)) → Acts (λ a. deleted a) b run other (atPlaces (b .idx .0 + 1) (b .len .0) (b .«out_len» .0) (withLimitsOf l b)) run₁ other₁
+  unfolding atPlaces withLimitsOf
+  deletes e = record {
+    is = dropping-of (withLimitsOf l b) run₁ other₁ (held-lengths (withLimitsOf l b) run other run₁ other₁ lr lo (u .held)) (still .output) 1 ∙ (ap (dropping 1) (u .is) ∙ sym e);
     size = u .size;
     side = u .side;
     run-beyond = u .run-beyond;
     other-beyond = u .other-beyond;
     held = dropped-held still;
-  })
-
-  delete-places : {r : Buffer} → r ≡ atPlaces (q .idx .0 + 1) (q .len .0) (q .«out_len» .0) q → r ≡ atPlaces (b .idx .0 + 1) (b .len .0) (b .«out_len» .0) (withLimitsOf (r .limits) b)
-  unfolding atPlaces withLimitsOf
-  delete-places {r} er =
-      er
-      ∙ (ap (λ (k : Buffer). atPlaces (k .idx .0 + 1) (k .len .0) (k .«out_len» .0) k) w
-      ∙ ap (λ (l : Limits). atPlaces (b .idx .0 + 1) (b .len .0) (b .«out_len» .0) (withLimitsOf l b)) (sym (ap (λ (k : Buffer). k .limits) er)))
-
-  pub deletes : {r : Buffer} → (b .«have_separate_output» ≡ false → other₁ ≡ other) → deleted (accountOf b run other) ≡ dropping 1 (x (accountOf b run other)) → r ≡ atPlaces (q .idx .0 + 1) (q .len .0) (q .«out_len» .0) q
-      → (Acts (λ a. deleted a) b run other r run₁ other₁) × (r ≡ atPlaces (b .idx .0 + 1) (b .len .0) (b .«out_len» .0) (withLimitsOf (r .limits) b)) × (b .«have_separate_output» ≡ false → other₁ ≡ other)
-  deletes k e er = (delete-acts e er, delete-places er, k)
+  }
 
 module _ {b : Buffer} {run other : List ℕ} (v : Deletable b run other) where
-  -- an output in the run does not lie apart
-  pub not-apart : b .«have_separate_output» ≡ false → (outputPhase (b .phase) && b .«have_separate_output») ≡ false
-  not-apart h = rw (v .output) h
-
   pub stays : Acts (λ a. a) b run other b run other
   stays = record { is = refl; size = refl; side = refl; run-beyond = refl; other-beyond = refl; held = v .held }
 
@@ -199,35 +174,6 @@ module _ {b : Buffer} {run other : List ℕ} (v : Deletable b run other) where
   pub merge-deletes : survives (clusters ((accountOf b run other) .rest)) (clusters ((accountOf b run other) .done)) ≡ false → b .«out_len» .0 ≤ 0 → 1 < b .len .0 - b .idx .0
       → deleted (accountOf b run other) ≡ dropping 1 (merge (clustersMerge (readLevel (b .level))) (b .idx .0 - goneOf b) (b .idx .0 + 2 - goneOf b) (accountOf b run other))
   merge-deletes h k l = deletes-merged v h k l ∙ ap (dropping 1) (sym (merge-places b run other (v .output) 2))
-
--- ---- delete_glyph
-module _ (a : Account ℕ) where
-  delete-none : hasOutput a ≡ false → deleteGlyph a ≡ refused WrongPhase
-  unfolding deleteGlyph refuse_when_else_
-  delete-none h = rw h
-
-  delete-outside : hasOutput a ≡ true → ltb (length (a .rest)) 1 ≡ true → deleteGlyph a ≡ refused OutOfRange
-  unfolding deleteGlyph refuse_when_else_
-  delete-outside h k = rw (h, k)
-
-  delete-accepts : hasOutput a ≡ true → ltb (length (a .rest)) 1 ≡ false → deleteGlyph a ≡ accepted (deleted a)
-  unfolding deleteGlyph refuse_when_else_
-  delete-accepts h k = rw (h, k)
-
-module _ {b : Buffer} {run other : List ℕ} {r : Reply} (v : Held b run other) where
-  pub delete-in-none : outputPhase (b .phase) ≡ false → r ≡ reply b (No WrongPhase) → MeetsIn (λ capacity a. deleteGlyph a) b run other r run other
-  delete-in-none h er = in-refused WrongPhase (delete-none _ (output-of b run other ∙ h)) v er
-
-  module _ (o : outputPhase (b .phase) ≡ true) where
-    pub delete-in-outside : b .len .0 ≤ b .idx .0 → r ≡ reply b (No OutOfRange) → MeetsIn (λ capacity a. deleteGlyph a) b run other r run other
-    delete-in-outside h er = in-refused OutOfRange (delete-outside _ (output-of b run other ∙ o) (rest-short v o h)) v er
-
-    pub delete-in-accepts : {f : Buffer} {run′ other′ : List ℕ} → b .idx .0 < b .len .0 → Acts (λ a. deleted a) b run other f run′ other′ → r ≡ reply f Done → MeetsIn (λ capacity a. deleteGlyph a) b run other r run′ other′
-    delete-in-accepts {f} {run′} {other′} h u er =
-        in-accepted f (u .side)
-        (subst (λ (k : ℕ). wordsFrom k run′ ≡ wordsFrom k run) (sym (u .size)) (u .run-beyond))
-        (subst (λ (k : ℕ). wordsFrom k other′ ≡ wordsFrom k other) (sym (u .size)) (u .other-beyond))
-        (u .held) (delete-accepts _ (output-of b run other ∙ o) (rest-long v o h) ∙ ap accepted (sym (u .is))) er
 
 -- ---- the cluster goes to the tail of the output
 module _ {b : Buffer} {run other : List ℕ} (v : Deletable b run other) (some-out : 0 < b .«out_len» .0) (g d : Words) (eg : seen g ≡ getD (glyphs run) (b .idx .0) zeroGlyph)
@@ -258,8 +204,8 @@ module _ {b : Buffer} {run other : List ℕ} (v : Deletable b run other) (some-o
       le-ltb ((current (accountOf b run other)) .cluster) (last (clusters ((accountOf b run other) .done))) (omega (arith, current-cluster, last-cluster)) in
       rw t
 
-  pub inherit-none : d .cluster ≤ g .cluster → (Acts inheriting b run other b run other) × (b ≡ b)
-  inherit-none h = (record { is = sym (inherits-none h); size = refl; side = refl; run-beyond = refl; other-beyond = refl; held = v .held }, refl)
+  pub inherit-none : d .cluster ≤ g .cluster → Acts inheriting b run other b run other
+  inherit-none h = record { is = sym (inherits-none h); size = refl; side = refl; run-beyond = refl; other-beyond = refl; held = v .held }
 
   tail-clusters : clusters ((accountOf b run other) .done) ≡ take (b .«out_len» .0) (clusters outs)
   unfolding accountOf
@@ -289,36 +235,32 @@ module _ {b : Buffer} {run other : List ℕ} (v : Deletable b run other) (some-o
           ∙ (ap (withDone (edit at n becomes (take n outs))) (sym (output-account b run other (v .output))) ∙ sym inherits-some))
 
     pub inherit-apart : {other′ : List ℕ} {at : ℕ} → b .«have_separate_output» ≡ true → at ≡ b .«out_len» .0 - tails (is (d .cluster)) (take (b .«out_len» .0) (clusters (glyphs other)))
-        → glyphs other′ ≡ edit at (b .«out_len» .0) becomes (glyphs other) → length other′ ≡ length other → (Acts inheriting b run other b run other′) × (b ≡ b)
+        → glyphs other′ ≡ edit at (b .«out_len» .0) becomes (glyphs other) → length other′ ≡ length other → Acts inheriting b run other b run other′
     inherit-apart {other′} {at} s ea eo lo =
         let a : ℕ = b .limits .allocated in
         let low : at ≤ b .«out_len» .0 = omega arith in
-        let kept : drop a (glyphs other′) ≡ drop a (glyphs other) = ap (drop a) eo ∙ edit-drop-behind becomes at (b .«out_len» .0) a (glyphs other) low (v .held .out-in) in (
-          record {
-            is = inherits-is run other′ (rw s (eo ∙ ap (λ (k : ℕ). edit k (b .«out_len» .0) becomes (glyphs other)) ea)) refl;
-            size = refl;
-            side = refl;
-            run-beyond = refl;
-            other-beyond = beyond a other other′ (whole-same run other (v .held .same) (v .held .whole)) lo kept;
-            held = v .held;
-          },
-          refl,
-        )
+        let kept : drop a (glyphs other′) ≡ drop a (glyphs other) = ap (drop a) eo ∙ edit-drop-behind becomes at (b .«out_len» .0) a (glyphs other) low (v .held .out-in) in
+        record {
+          is = inherits-is run other′ (rw s (eo ∙ ap (λ (k : ℕ). edit k (b .«out_len» .0) becomes (glyphs other)) ea)) refl;
+          size = refl;
+          side = refl;
+          run-beyond = refl;
+          other-beyond = beyond a other other′ (whole-same run other (v .held .same) (v .held .whole)) lo kept;
+          held = v .held;
+        }
 
     pub inherit-within : {run′ : List ℕ} {at : ℕ} → b .«have_separate_output» ≡ false → at ≡ b .«out_len» .0 - tails (is (d .cluster)) (take (b .«out_len» .0) (clusters (glyphs run)))
-        → glyphs run′ ≡ edit at (b .«out_len» .0) becomes (glyphs run) → length run′ ≡ length run → (Acts inheriting b run other b run′ other) × (b ≡ b)
+        → glyphs run′ ≡ edit at (b .«out_len» .0) becomes (glyphs run) → length run′ ≡ length run → Acts inheriting b run other b run′ other
     inherit-within {run′} {at} s ea er lr =
         let a : ℕ = b .limits .allocated in
         let low : at ≤ b .«out_len» .0 = omega arith in
         let kept : drop a (glyphs run′) ≡ drop a (glyphs run) = ap (drop a) er ∙ edit-drop-behind becomes at (b .«out_len» .0) a (glyphs run) low (v .held .out-in) in
-        let rest : drop (b .idx .0) (glyphs run′) ≡ drop (b .idx .0) (glyphs run) = ap (drop (b .idx .0)) er ∙ edit-drop-behind becomes at (b .«out_len» .0) (b .idx .0) (glyphs run) low (v .held .behind (v .output) s) in (
-          record {
-            is = inherits-is run′ other (rw s (er ∙ ap (λ (k : ℕ). edit k (b .«out_len» .0) becomes (glyphs run)) ea)) rest;
-            size = refl;
-            side = refl;
-            run-beyond = beyond a run run′ (v .held .whole) lr kept;
-            other-beyond = refl;
-            held = v .held;
-          },
-          refl,
-        )
+        let rest : drop (b .idx .0) (glyphs run′) ≡ drop (b .idx .0) (glyphs run) = ap (drop (b .idx .0)) er ∙ edit-drop-behind becomes at (b .«out_len» .0) (b .idx .0) (glyphs run) low (v .held .behind (v .output) s) in
+        record {
+          is = inherits-is run′ other (rw s (er ∙ ap (λ (k : ℕ). edit k (b .«out_len» .0) becomes (glyphs run)) ea)) rest;
+          size = refl;
+          side = refl;
+          run-beyond = beyond a run run′ (v .held .whole) lr kept;
+          other-beyond = refl;
+          held = v .held;
+        }

@@ -1,11 +1,11 @@
--- What the functions below the exported deletion ask for and do.
-use mathlib.Core.{Path._≡_, Bool.Bool, Bool.true, Bool._&&_, List.List}
-use Prim.Native.Nat.{ℕ, _<_}
+-- What the functions below the exported deletion ask for and do, by places.
+use mathlib.Core.{Path._≡_, Bool.Bool, Bool.true, Bool.false, Bool._&&_, List.List}
+use Prim.Native.Nat.{ℕ, _+_, _≤_, _<_}
 use lib.{Dec.ltb, ListN.length, ListN.getD}
-use Rattle.records.specs.{Ranges.clusters, Ranges.is, Ranges.first, Ranges.last}
-use Rattle.lists.specs.declared.{Buffer.Buffer}
-use Rattle.lists.specs.{Account.Account, Account.outputPhase, State.Held}
-use Rattle.edits.specs.Deleting.{current, inherited}
+use Rattle.records.specs.{Ranges.clusters, Ranges.is, Ranges.first, Ranges.last, View.glyphs}
+use Rattle.lists.specs.declared.{Buffer.Buffer, Reply.Reply, Verdict.Verdict}
+use Rattle.lists.specs.{Account.Account, Account.outputPhase, Results.Result, State.accountOf, State.Held, States.atPlaces, States.withLimitsOf, Contract.Meets, Verdicts.settled, Verdicts.Sided}
+use Rattle.edits.specs.{Acts.Acts, Deleting.current, Deleting.survives, Deleting.inherited, Deleting.deleted, MergeActs.mergeLimits}
 
 -- a buffer with output and a glyph at the cursor
 pub record Deletable (b : Buffer) (run other : List ℕ) : Type 0 where
@@ -22,3 +22,44 @@ lastHas a = let ds = clusters (a .done) in ltb 0 (length ds) && is (first (clust
 
 unfoldable pub inheriting : Account ℕ → Account ℕ
 inheriting a = inherited ((current a) .cluster) ((current a) .mask) a
+
+-- a buffer at other places, its output apart or not
+abbrev pub laid : (separate : Bool) (level idx len outLen : ℕ) → Buffer → Buffer
+laid separate level i l o b = record { idx = record { 0 = i }; len = record { 0 = l }; «out_len» = record { 0 = o }; limits = b .limits; wants = b .wants; phase = b .phase; swapped = b .swapped; «have_separate_output» = separate; level = level }
+
+-- a glyph at the cursor, in slices that are large enough
+pub record DeleteRoom (idx len outLen : ℕ) (run other : List ℕ) : Type 0 where
+  pub some : idx < len
+  pub fits : len ≤ length (glyphs run)
+  pub out-fits : outLen ≤ length (glyphs run)
+  pub same : length (glyphs run) ≡ length (glyphs other)
+
+-- what was found, on the account of every buffer at these places
+pub record NextFound (idx len : ℕ) (run : List ℕ) (t : Bool) : Type 0 where
+  pub is : (b : Buffer) (other : List ℕ) → let x = laid (b .«have_separate_output») (b .level) idx len (b .«out_len» .0) b in Deletable x run other → t ≡ nextHas (accountOf x run other)
+
+pub record LastFound (separate : Bool) (idx outLen : ℕ) (run other : List ℕ) (t : Bool) : Type 0 where
+  pub is : (b : Buffer) → let x = laid separate (b .level) idx (b .len .0) outLen b in Deletable x run other → t ≡ lastHas (accountOf x run other)
+
+pub record Surviving (separate : Bool) (idx len outLen : ℕ) (run other : List ℕ) (t : Bool) : Type 0 where
+  pub is : (b : Buffer) → let x = laid separate (b .level) idx len outLen b in Deletable x run other → t ≡ survives (clusters ((accountOf x run other) .rest)) (clusters ((accountOf x run other) .done))
+
+-- and what was done
+pub record Inherits (separate : Bool) (idx outLen : ℕ) (run other run′ other′ : List ℕ) : Type 0 where
+  pub acts : (b : Buffer) → let x = laid separate (b .level) idx (b .len .0) outLen b in Deletable x run other → Acts inheriting x run other x run′ other′
+  pub own : separate ≡ false → other′ ≡ other
+
+-- the glyph at the cursor goes; `merged`: its cluster went to the next by a merge, which costs 2
+pub record Deletes (separate : Bool) (level idx len outLen : ℕ) (merged : Bool) (run other run′ other′ : List ℕ) : Type 0 where
+  pub acts : (b : Buffer) → let x = laid separate level idx len outLen b in Deletable x run other → Acts (λ a. deleted a) x run other (atPlaces (idx + 1) len outLen (withLimitsOf (mergeLimits merged 2 (b .limits)) x)) run′ other′
+  pub own : separate ≡ false → other′ ≡ other
+
+-- the reply of a call that knows only then whether it merged two glyphs
+unfoldable pub settledMerged : Buffer → Verdict → Bool → Reply
+settledMerged b v merged = settled b (record { idx = v .idx; len = v .len; «out_len» = v .«out_len»; limits = mergeLimits merged 2 (v .limits); apart = v .apart; acts = v .acts; answer = v .answer })
+
+-- what is promised of its verdict
+pub record DecidedMerged (call : ℕ → Account ℕ → Result ℕ) (b : Buffer) (f s : List ℕ) (v : Verdict) (Ask : Type 0) (Act : Bool → (run other run′ other′ : List ℕ) → Type 0) : Type 0 where
+  pub still : v .acts ≡ false → Meets call b f s (settledMerged b v false) f s
+  pub asked : v .acts ≡ true → Ask
+  pub acted : v .acts ≡ true → (merged : Bool) {f′ s′ : List ℕ} → length f′ ≡ length f → length s′ ≡ length s → Sided (b .swapped) (Act merged) f s f′ s′ → Meets call b f s (settledMerged b v merged) f′ s′

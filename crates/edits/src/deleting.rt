@@ -1,126 +1,218 @@
 // Deletion: call 0F.
 ghost use mathlib.Core.Path.{_≡_};
 ghost use mathlib.Core.Bool.{false};
-ghost use Prim.Native.Nat.{_+_, _<_};
-ghost use Rattle.records.specs.Ranges.{clusters};
-ghost use Rattle.lists.specs.State.{Held, accountOf};
+ghost use Prim.Native.Nat.{_+_, _≤_, _<_};
+ghost use lib.ListN.{length};
+ghost use Rattle.records.specs.View.{glyphs};
 ghost use Rattle.lists.specs.States.{atPlaces, withLimitsOf};
-ghost use Rattle.lists.specs.Contract.{Meets, MeetsIn};
-ghost use Rattle.edits.specs.Deleting.{survives, deleted, deleteGlyph};
+ghost use Rattle.lists.specs.Contract.{Meets};
+ghost use Rattle.lists.specs.Verdicts.{Sided};
+ghost use Rattle.edits.specs.Deleting.{deleted, deleteGlyph};
 ghost use Rattle.edits.specs.Acts.{Acts};
-ghost use Rattle.edits.specs.Deletes.{Deletable, nextHas, lastHas, inheriting};
+ghost use Rattle.edits.specs.Deletes.{Deletable, DeleteRoom, NextFound, LastFound, Surviving, Inherits, Deletes, settledMerged, DecidedMerged};
+ghost use Rattle.edits.specs.MergeActs.{mergeLimits};
+use super::merge_acts;
 use super::merges;
 use super::writing;
 use lists::Buffer;
 use lists::Reply;
+use lists::Verdict;
 use lists::state;
+use lists::verdicts;
+use records::Answer;
 use records::Refusal;
 
-fn next_has(b: Buffer, run: &[u32], other: &[u32]) -> bool
-    requires { ⌜ Deletable b (now run) (now other) ⌝ }
-    ensures { λ r. ⌜ r ≡ nextHas (accountOf b (now (run .entry)) (now (other .entry))) ⌝ }
+fn next_has(run: &[u32], idx: usize, len: usize) -> bool
+    requires { ⌜ (idx < len) × (len ≤ length (glyphs (now run))) ⌝ }
+    ensures { λ r. ⌜ NextFound idx len (now (run .entry)) r ⌝ }
 {
-    let idx = b.idx.0;
-    if 1 < b.len.0 - idx {
+    if 1 < len - idx {
         let c = records::glyphs::cluster_at(run, idx);
         return records::glyphs::cluster_at(run, idx + 1) == c;
     }
     false
 }
 
-fn last_has(b: Buffer, run: &[u32], other: &[u32]) -> bool
-    requires { ⌜ Deletable b (now run) (now other) ⌝ }
-    ensures { λ r. ⌜ r ≡ lastHas (accountOf b (now (run .entry)) (now (other .entry))) ⌝ }
+fn last_has(run: &[u32], other: &[u32], separate: bool, idx: usize, out_len: usize) -> bool
+    requires { ⌜ (idx < length (glyphs (now run))) × («out_len» ≤ length (glyphs (now run))) × («out_len» ≤ length (glyphs (now other))) ⌝ }
+    ensures { λ r. ⌜ LastFound separate idx «out_len» (now (run .entry)) (now (other .entry)) r ⌝ }
 {
-    let out_len = b.out_len.0;
     if 0 < out_len {
-        let c = records::glyphs::cluster_at(run, b.idx.0);
-        let d = writing::last_done(run, other, b.have_separate_output, out_len);
+        let c = records::glyphs::cluster_at(run, idx);
+        let d = writing::last_done(run, other, separate, out_len);
         return d.cluster == c;
     }
     false
 }
 
 // Whether the cluster of the glyph at the cursor stays without it.
-fn cluster_survives(b: Buffer, run: &[u32], other: &[u32]) -> bool
-    requires { ⌜ Deletable b (now run) (now other) ⌝ }
-    ensures { λ r. ⌜ r ≡ survives (clusters ((accountOf b (now (run .entry)) (now (other .entry))) .rest)) (clusters ((accountOf b (now (run .entry)) (now (other .entry))) .done)) ⌝ }
+fn cluster_survives(
+    run: &[u32],
+    other: &[u32],
+    separate: bool,
+    idx: usize,
+    len: usize,
+    out_len: usize,
+) -> bool
+    requires { ⌜ DeleteRoom idx len «out_len» (now run) (now other) ⌝ }
+    ensures { λ r. ⌜ Surviving separate idx len «out_len» (now (run .entry)) (now (other .entry)) r ⌝ }
 {
-    if next_has(b, run, other) {
+    if next_has(run, idx, len) {
         return true;
     }
-    last_has(b, run, other)
+    last_has(run, other, separate, idx, out_len)
 }
 
 // The equal tail of the output takes the cluster of the glyph at the cursor, where that is lower.
-fn inherit(b: Buffer, run: &mut [u32], other: &mut [u32]) -> Buffer
-    requires { ⌜ (Deletable b (now run) (now other)) × (0 < b .«out_len» .0) ⌝ }
-    ensures { λ r. ⌜ (Acts inheriting b (now (run .entry)) (now (other .entry)) r (now (run .exit)) (now (other .exit))) × (r ≡ b) × (b .«have_separate_output» ≡ false → now (other .exit) ≡ now (other .entry)) ⌝ }
+fn inherit(run: &mut [u32], other: &mut [u32], separate: bool, idx: usize, out_len: usize)
+    requires { ⌜ (idx < length (glyphs (now run))) × («out_len» ≤ length (glyphs (now run))) × («out_len» ≤ length (glyphs (now other))) × (0 < «out_len») ⌝ }
+    ensures { λ r. ⌜ Inherits separate idx «out_len» (now (run .entry)) (now (other .entry)) (now (run .exit)) (now (other .exit)) ⌝ }
 {
-    let out_len = b.out_len.0;
-    let g = records::glyphs::get(run, b.idx.0);
-    let d = writing::last_done(run, other, b.have_separate_output, out_len);
+    let g = records::glyphs::get(run, idx);
+    let d = writing::last_done(run, other, separate, out_len);
     if d.cluster <= g.cluster {
-        return b;
+        return;
     }
-    if b.have_separate_output {
+    if separate {
         let at = lists::ranges::equal_start(other, out_len, 0, d.cluster);
         lists::ranges::set_clusters(other, at, out_len, g.cluster, g.mask);
-        return b;
+        return;
     }
     let at = lists::ranges::equal_start(run, out_len, 0, d.cluster);
     lists::ranges::set_clusters(run, at, out_len, g.cluster, g.mask);
-    b
 }
 
-fn drop_one(b: Buffer) -> Buffer
-    requires { ⌜ b .idx .0 < b .len .0 ⌝ }
-    ensures { λ r. ⌜ r ≡ atPlaces (b .idx .0 + 1) (b .len .0) (b .«out_len» .0) b ⌝ }
+// The cluster of the glyph at the cursor goes to a neighbour. Whether the two were merged, which costs 2.
+pub(crate) fn bequeath(
+    run: &mut [u32],
+    other: &mut [u32],
+    separate: bool,
+    level: u32,
+    idx: usize,
+    len: usize,
+    out_len: usize,
+) -> bool
+    requires { ⌜ DeleteRoom idx len «out_len» (now run) (now other) ⌝ }
+    ensures { λ r. ⌜ Deletes separate level idx len «out_len» r (now (run .entry)) (now (other .entry)) (now (run .exit)) (now (other .exit)) ⌝ }
 {
-    state::at_places(b, b.idx.0 + 1, b.len.0, b.out_len.0)
+    if cluster_survives(run, other, separate, idx, len, out_len) {
+        return false;
+    }
+    if 0 < out_len {
+        inherit(run, other, separate, idx, out_len);
+        return false;
+    }
+    if len - idx < 2 {
+        return false;
+    }
+    let merges = merges::clusters_merge(level);
+    merge_acts::merge_by(
+        run,
+        other,
+        false,
+        separate,
+        merges,
+        level,
+        idx,
+        len,
+        out_len,
+        idx,
+        idx + 2,
+    );
+    merges
 }
 
-// The glyph at the cursor goes, and its cluster goes to a neighbour.
+// The same, wherever the run lies.
+fn bequeath_by(
+    first: &mut [u32],
+    second: &mut [u32],
+    swapped: bool,
+    separate: bool,
+    level: u32,
+    idx: usize,
+    len: usize,
+    out_len: usize,
+) -> bool
+    requires { ⌜ DeleteRoom idx len «out_len» (now first) (now second) ⌝ }
+    ensures { λ r. ⌜ Sided swapped (Deletes separate level idx len «out_len» r) (now (first .entry)) (now (second .entry)) (now (first .exit)) (now (second .exit)) ⌝ }
+{
+    if swapped {
+        return bequeath(second, first, separate, level, idx, len, out_len);
+    }
+    bequeath(first, second, separate, level, idx, len, out_len)
+}
+
+fn drop_one(b: Buffer, merged: bool) -> Buffer
+    requires { ⌜ b .idx .0 < b .len .0 ⌝ }
+    ensures { λ r. ⌜ r ≡ atPlaces (b .idx .0 + 1) (b .len .0) (b .«out_len» .0) (withLimitsOf (mergeLimits merged 2 (b .limits)) b) ⌝ }
+{
+    let idx = b.idx.0 + 1;
+    let paid = state::with_limits(b, merge_acts::merge_limits(b.limits, merged, 2));
+    state::at_places(paid, idx, b.len.0, b.out_len.0)
+}
+
+// The glyph at the cursor goes, for another call.
 pub(crate) fn delete_one(b: Buffer, run: &mut [u32], other: &mut [u32]) -> Buffer
     requires { ⌜ Deletable b (now run) (now other) ⌝ }
     ensures { λ r. ⌜ (Acts (λ a. deleted a) b (now (run .entry)) (now (other .entry)) r (now (run .exit)) (now (other .exit))) × (r ≡ atPlaces (b .idx .0 + 1) (b .len .0) (b .«out_len» .0) (withLimitsOf (r .limits) b)) × (b .«have_separate_output» ≡ false → now (other .exit) ≡ now (other .entry)) ⌝ }
 {
-    if cluster_survives(b, run, other) {
-        return drop_one(b);
-    }
-    if 0 < b.out_len.0 {
-        return drop_one(inherit(b, run, other));
-    }
-    let idx = b.idx.0;
-    if 1 < b.len.0 - idx {
-        return drop_one(merges::merge_clusters_at(b, run, other, idx, idx + 2));
-    }
-    drop_one(b)
+    let merged = bequeath(
+        run,
+        other,
+        b.have_separate_output,
+        b.level,
+        b.idx.0,
+        b.len.0,
+        b.out_len.0,
+    );
+    drop_one(b, merged)
 }
 
-fn delete_in(b: Buffer, run: &mut [u32], other: &mut [u32]) -> Reply
-    requires { ⌜ Held b (now run) (now other) ⌝ }
-    ensures { λ r. ⌜ MeetsIn (λ capacity a. deleteGlyph a) b (now (run .entry)) (now (other .entry)) r (now (run .exit)) (now (other .exit)) ⌝ }
+// 0F. What is due where it merges is not in it.
+fn delete_verdict(b: Buffer, first: &[u32], second: &[u32]) -> Verdict
+    ensures { λ v. ⌜ DecidedMerged (λ capacity a. deleteGlyph a) b (now (first .entry)) (now (second .entry)) v (DeleteRoom (b .idx .0) (b .len .0) (b .«out_len» .0) (now (first .entry)) (now (second .entry))) (Deletes (b .«have_separate_output») (b .level) (b .idx .0) (b .len .0) (b .«out_len» .0)) ⌝ }
 {
-    let phase = b.phase;
-    if state::have_output(phase) {
-        if b.len.0 <= b.idx.0 {
-            return state::refusal(b, Refusal::OutOfRange);
+    if state::is_sound(b, first, second) {
+        let phase = b.phase;
+        if state::have_output(phase) {
+            if b.len.0 <= b.idx.0 {
+                return verdicts::refused(b, Refusal::OutOfRange);
+            }
+            let after = state::at_places(b, b.idx.0 + 1, b.len.0, b.out_len.0);
+            return verdicts::verdict(after, true, Answer::Done);
         }
-        return state::accepted(delete_one(b, run, other));
+        return verdicts::refused(b, Refusal::WrongPhase);
     }
-    state::refusal(b, Refusal::WrongPhase)
+    verdicts::refused(b, Refusal::Contradiction)
+}
+
+// The reply, once it is known whether two glyphs were merged.
+fn settled_merged(b: Buffer, v: Verdict, merged: bool) -> Reply
+    ensures { λ r. ⌜ r ≡ settledMerged b v merged ⌝ }
+{
+    let mut due = v;
+    due.limits = merge_acts::merge_limits(v.limits, merged, 2);
+    verdicts::settled(b, due)
 }
 
 // 0F
 pub fn delete_glyph(b: Buffer, first: &mut [u32], second: &mut [u32]) -> Reply
     ensures { λ r. ⌜ Meets (λ capacity a. deleteGlyph a) b (now (first .entry)) (now (second .entry)) r (now (first .exit)) (now (second .exit)) ⌝ }
 {
-    if state::is_sound(b, first, second) {
-        if b.swapped {
-            return delete_in(b, second, first);
-        }
-        return delete_in(b, first, second);
-    }
-    state::refusal(b, Refusal::Contradiction)
+    let v = delete_verdict(b, first, second);
+    let merged = if v.acts {
+        bequeath_by(
+            first,
+            second,
+            b.swapped,
+            b.have_separate_output,
+            b.level,
+            b.idx.0,
+            b.len.0,
+            b.out_len.0,
+        )
+    } else {
+        false
+    };
+    settled_merged(b, v, merged)
 }

@@ -1,0 +1,157 @@
+-- Deletion by places, and what 0F comes to, outcome by outcome.
+use mathlib.Core.{Path._≡_, Path.refl, Path.sym, Path.ap, Path._∙_, Path.subst, Bool.Bool, Bool.true, Bool.false, Bool.cond, Bool.false≢true, List.List}
+use Prim.Native.Nat.{ℕ, _+_, _-_, _≤_, _<_}
+use native.Mathlib.Omega.{arith}
+use lib.{Dec.eqb, Dec.ltb, ListN.length, ListN.take, ListN.getD, Seq.slice}
+use Rattle.records.specs.{Contradiction, WrongPhase, OutOfRange, Answer, Done, No, Limits, Glyphs.setCluster, Ranges.clusters, Ranges.edit, Ranges.tails, Ranges.is, View.glyphs, View.seen, View.zeroGlyph}
+use Rattle.records.specs.declared.{Glyph.Glyph as Words}
+use Rattle.records.proofs.View.{glyphs-same}
+use Rattle.lists.specs.declared.{Buffer.Buffer, Reply.Reply, Verdict.Verdict}
+use Rattle.lists.specs.{Account.Account, Account.readLevel, Account.outputPhase, Account.hasOutput, Cursor.dropping, Results.Result, Results.refused, Results.accepted, Results.refuse_when_else_, State.accountOf, State.goneOf, State.sound, States.reply, States.atPlaces, States.withLimitsOf, Contract.Meets, Verdicts.leaving, Verdicts.Leaves, Verdicts.settledBuffer, Verdicts.settled, Verdicts.Sided}
+use Rattle.lists.proofs.{Accounts.output-of, Accounts.sound-held}
+use Rattle.lists.proofs.Decisions.{acts-is, settles-unsound, settles-refused, meets-sided}
+use Rattle.edits.specs.{Acts.Acts, Deleting.survives, Deleting.deleted, Deleting.deleteGlyph, Merging.merge, Merging.clustersMerge, MergeActs.mergeLimits, MergeActs.Merges}
+use Rattle.edits.specs.Deletes.{Deletable, laid, DeleteRoom, NextFound, LastFound, Surviving, Inherits, Deletes, settledMerged, DecidedMerged}
+use Rattle.edits.proofs.Writings.{rest-short, rest-long}
+use Rattle.edits.proofs.MergeCalls.{in-acts}
+use Rattle.edits.proofs.Deletions.{next-is, next-none, last-is, last-none, survives-next, survives-last, deletes-survived, deletes-inherited, deletes-alone, deletes, stays, next-mergeful, merge-deletes, inherit-none, inherit-apart, inherit-within}
+
+-- ---- what is found
+module _ {idx len : ℕ} {run : List ℕ} where
+  pub next-found : {c d : ℕ} → 1 < len - idx → c ≡ getD (clusters (glyphs run)) idx 4294967295 → d ≡ getD (clusters (glyphs run)) (idx + 1) 4294967295 → NextFound idx len run (eqb d c)
+  next-found h ec ed = record { is = λ b other v. next-is v h ec ed }
+
+  pub next-lacks : len - idx ≤ 1 → NextFound idx len run false
+  next-lacks h = record { is = λ b other v. next-none v h }
+
+module _ {separate : Bool} {idx outLen : ℕ} {run other : List ℕ} where
+  pub last-found : {c : ℕ} (d : Words) → 0 < outLen → c ≡ getD (clusters (glyphs run)) idx 4294967295 → seen d ≡ getD (cond separate (glyphs other) (glyphs run)) (outLen - 1) zeroGlyph → LastFound separate idx outLen run other (eqb (d .cluster) c)
+  last-found d h ec ed = record { is = λ b v. last-is v d h ec ed }
+
+  pub last-lacks : outLen ≤ 0 → LastFound separate idx outLen run other false
+  last-lacks h = record { is = λ b v. last-none v h }
+
+module _ {separate t : Bool} {idx len outLen : ℕ} {run other : List ℕ} (w : NextFound idx len run t) where
+  pub surviving-next : t ≡ true → Surviving separate idx len outLen run other true
+  surviving-next h = record { is = λ b v. survives-next v (sym (w .is (laid separate (b .level) idx len outLen b) other v) ∙ h) }
+
+  pub surviving-last : {u : Bool} → t ≡ false → LastFound separate idx outLen run other u → Surviving separate idx len outLen run other u
+  surviving-last h x = record { is = λ b v. survives-last v (sym (w .is (laid separate (b .level) idx len outLen b) other v) ∙ h) (x .is (laid separate (b .level) idx len outLen b) v) }
+
+-- ---- the cluster goes to the tail of the output
+module _ {separate : Bool} {idx outLen : ℕ} {run other : List ℕ} (g d : Words) (some-out : 0 < outLen) (eg : seen g ≡ getD (glyphs run) idx zeroGlyph) (ed : seen d ≡ getD (cond separate (glyphs other) (glyphs run)) (outLen - 1) zeroGlyph) where
+  pub inherits-none : d .cluster ≤ g .cluster → Inherits separate idx outLen run other run other
+  inherits-none h = record { acts = λ b v. inherit-none v some-out g d eg ed h; own = λ z. refl }
+
+  module _ {at : ℕ} (h : g .cluster < d .cluster) where
+    pub inherits-apart : {other′ : List ℕ} → separate ≡ true → at ≡ outLen - tails (is (d .cluster)) (take outLen (clusters (glyphs other))) → glyphs other′ ≡ edit at outLen (setCluster (g .cluster) (g .mask)) (glyphs other) → length other′ ≡ length other → Inherits separate idx outLen run other run other′
+    inherits-apart s ea eo lo = record { acts = λ b v. inherit-apart v some-out g d eg ed h s ea eo lo; own = λ z. absurd (false≢true (sym z ∙ s)) }
+
+    pub inherits-within : {run′ : List ℕ} → separate ≡ false → at ≡ outLen - tails (is (d .cluster)) (take outLen (clusters (glyphs run))) → glyphs run′ ≡ edit at outLen (setCluster (g .cluster) (g .mask)) (glyphs run) → length run′ ≡ length run → Inherits separate idx outLen run other run′ other
+    inherits-within s ea er lr = record { acts = λ b v. inherit-within v some-out g d eg ed h s ea er lr; own = λ z. refl }
+
+-- ---- the act
+module _ {separate t : Bool} {level idx len outLen : ℕ} {run other : List ℕ} (w : Surviving separate idx len outLen run other t) where
+  -- without a cost
+  free : {x : Account ℕ → Account ℕ} {run′ other′ : List ℕ} (b : Buffer) → let y = laid separate level idx len outLen b in Deletable y run other → Acts x y run other y run′ other′ → length run′ ≡ length run → length other′ ≡ length other
+      → deleted (accountOf y run other) ≡ dropping 1 (x (accountOf y run other)) → Acts (λ a. deleted a) y run other (atPlaces (idx + 1) len outLen (withLimitsOf (mergeLimits false 2 (b .limits)) y)) run′ other′
+  unfolding mergeLimits withLimitsOf
+  free b v u lr lo e = deletes v (b .limits) u lr lo e
+
+  pub deletes-kept : t ≡ true → Deletes separate level idx len outLen false run other run other
+  deletes-kept h = record { acts = λ b v. free b v (stays v) refl refl (deletes-survived v (sym (w .is (laid separate level idx len outLen b) v) ∙ h)); own = λ z. refl }
+
+  module _ (h : t ≡ false) where
+    pub deletes-inherits : {run′ other′ : List ℕ} → 0 < outLen → Inherits separate idx outLen run other run′ other′ → length run′ ≡ length run → length other′ ≡ length other → Deletes separate level idx len outLen false run other run′ other′
+    deletes-inherits k u lr lo = record { acts = λ b v. free b v (u .acts (laid separate level idx len outLen b) v) lr lo (deletes-inherited v (sym (w .is (laid separate level idx len outLen b) v) ∙ h) k); own = u .own }
+
+    pub deletes-single : outLen ≤ 0 → len - idx < 2 → Deletes separate level idx len outLen false run other run other
+    deletes-single k l = record { acts = λ b v. free b v (stays v) refl refl (deletes-alone v (sym (w .is (laid separate level idx len outLen b) v) ∙ h) k (omega arith)); own = λ z. refl }
+
+    pub deletes-merges : {merges : Bool} {run′ other′ : List ℕ} → outLen ≤ 0 → 2 ≤ len - idx → merges ≡ clustersMerge (readLevel level) → Sided false (Merges separate merges level idx len outLen idx (idx + 2)) run other run′ other′ → length run′ ≡ length run → length other′ ≡ length other
+        → Deletes separate level idx len outLen merges run other run′ other′
+    deletes-merges {merges} {run′} {other′} k l em m lr lo = record {
+      acts = λ b v.
+        let y = laid separate level idx len outLen b in
+        let two : idx + 2 - idx ≡ 2 = omega arith in
+        deletes v (mergeLimits merges 2 (b .limits)) (rw two at (m .first refl .acts y (rw (v .output)) (next-mergeful v (omega arith)))) lr lo
+        (merge-deletes v (sym (w .is y v) ∙ h) k (omega arith) ∙ ap (λ (z : Bool). dropping 1 (merge z (idx - goneOf y) (idx + 2 - goneOf y) (accountOf y run other))) (sym em));
+      own = m .first refl .apart-only;
+    }
+
+-- at the places of a buffer
+pub delete-room : {b : Buffer} {run other : List ℕ} → Deletable b run other → DeleteRoom (b .idx .0) (b .len .0) (b .«out_len» .0) run other
+delete-room {b} {run} {other} v = record { some = v .some; fits = omega (arith, v .held .len-in, v .held .all-in); out-fits = omega (arith, v .held .out-in, v .held .all-in); same = glyphs-same run other (v .held .same) }
+
+module _ (b : Buffer) {merged : Bool} {run other run′ other′ : List ℕ} (w : Deletes (b .«have_separate_output») (b .level) (b .idx .0) (b .len .0) (b .«out_len» .0) merged run other run′ other′) where
+  pub deletes-acts : {r : Buffer} → Deletable b run other → r ≡ atPlaces (b .idx .0 + 1) (b .len .0) (b .«out_len» .0) (withLimitsOf (mergeLimits merged 2 (b .limits)) b) → Acts (λ a. deleted a) b run other r run′ other′
+  deletes-acts v er = rw er (w .acts b v)
+
+  pub deletes-own : b .«have_separate_output» ≡ false → other′ ≡ other
+  deletes-own h = w .own h
+
+pub deletes-places : (b : Buffer) (l : Limits) {r : Buffer} → r ≡ atPlaces (b .idx .0 + 1) (b .len .0) (b .«out_len» .0) (withLimitsOf l b) → r ≡ atPlaces (b .idx .0 + 1) (b .len .0) (b .«out_len» .0) (withLimitsOf (r .limits) b)
+unfolding atPlaces withLimitsOf
+deletes-places b l er = rw er
+
+pub drops : (b : Buffer) (merged : Bool) {l : Limits} {x r : Buffer} → l ≡ mergeLimits merged 2 (b .limits) → x ≡ withLimitsOf l b → r ≡ atPlaces (b .idx .0 + 1) (b .len .0) (b .«out_len» .0) x → r ≡ atPlaces (b .idx .0 + 1) (b .len .0) (b .«out_len» .0) (withLimitsOf (mergeLimits merged 2 (b .limits)) b)
+drops b merged el ex er = rw (er, ex, el)
+
+-- ---- 0F
+module _ (a : Account ℕ) where
+  delete-none : hasOutput a ≡ false → deleteGlyph a ≡ refused WrongPhase
+  unfolding deleteGlyph refuse_when_else_
+  delete-none h = rw h
+
+  delete-outside : hasOutput a ≡ true → ltb (length (a .rest)) 1 ≡ true → deleteGlyph a ≡ refused OutOfRange
+  unfolding deleteGlyph refuse_when_else_
+  delete-outside h k = rw (h, k)
+
+  delete-accepts : hasOutput a ≡ true → ltb (length (a .rest)) 1 ≡ false → deleteGlyph a ≡ accepted (deleted a)
+  unfolding deleteGlyph refuse_when_else_
+  delete-accepts h k = rw (h, k)
+
+-- no act
+merged-none : {call : ℕ → Account ℕ → Result ℕ} {b b′ : Buffer} {f s : List ℕ} {a : Answer} {v : Verdict} {Ask : Type 0} {Act : Bool → (run other run′ other′ : List ℕ) → Type 0} → Leaves b′ false a v → Meets call b f s (settled b v) f s → DecidedMerged call b f s v Ask Act
+unfolding settledMerged mergeLimits
+merged-none w m = record { still = λ k. m; asked = λ k. absurd (false≢true (sym (acts-is w) ∙ k)); acted = λ k. absurd (false≢true (sym (acts-is w) ∙ k)) }
+
+due-is : (b : Buffer) {b′ : Buffer} {v : Verdict} (merged : Bool) → b′ ≡ atPlaces (b .idx .0 + 1) (b .len .0) (b .«out_len» .0) b → Leaves b′ true Done v → settledMerged b v merged ≡ reply (atPlaces (b .idx .0 + 1) (b .len .0) (b .«out_len» .0) (withLimitsOf (mergeLimits merged 2 (b .limits)) b)) Done
+unfolding settledMerged settled settledBuffer atPlaces withLimitsOf
+due-is b merged eb w = ap (λ (x : Verdict). settledMerged b x merged) (w .is ∙ ap (λ (x : Buffer). leaving x true Done) eb)
+
+abbrev DeleteDecided : Buffer → (f s : List ℕ) → Verdict → Type 0
+DeleteDecided b f s v = DecidedMerged (λ capacity a. deleteGlyph a) b f s v (DeleteRoom (b .idx .0) (b .len .0) (b .«out_len» .0) f s) (Deletes (b .«have_separate_output») (b .level) (b .idx .0) (b .len .0) (b .«out_len» .0))
+
+module _ {b : Buffer} {f s : List ℕ} {v : Verdict} where
+  pub delete-unsound : sound b f s ≡ false → Leaves b false (No Contradiction) v → DeleteDecided b f s v
+  delete-unsound h w = merged-none w (settles-unsound h w)
+
+  module _ (h : sound b f s ≡ true) where
+    pub delete-phase : outputPhase (b .phase) ≡ false → Leaves b false (No WrongPhase) v → DeleteDecided b f s v
+    delete-phase o w = merged-none w (settles-refused h (record { law = λ run other l. delete-none _ (output-of b run other ∙ o) }) w)
+
+    module _ (o : outputPhase (b .phase) ≡ true) where
+      pub delete-ended : b .len .0 ≤ b .idx .0 → Leaves b false (No OutOfRange) v → DeleteDecided b f s v
+      delete-ended k w = merged-none w (settles-refused h (record { law = λ run other l. delete-outside _ (output-of b run other ∙ o) (rest-short (l .held) o k) }) w)
+
+      pub delete-goes : {b′ : Buffer} → b .idx .0 < b .len .0 → b′ ≡ atPlaces (b .idx .0 + 1) (b .len .0) (b .«out_len» .0) b → Leaves b′ true Done v → DeleteDecided b f s v
+      delete-goes k eb w = record {
+        still = λ t. absurd (false≢true (sym t ∙ acts-is w));
+        asked = λ t. delete-room (record { held = sound-held b f s h; output = o; some = k });
+        acted = λ t merged lf ls act. meets-sided h lf ls act (λ run other run′ other′ l lr lo d.
+          in-acts (d .acts b (record { held = l .held; output = o; some = k })) (delete-accepts _ (output-of b run other ∙ o) (rest-long (l .held) o k)) (due-is b merged eb w));
+      }
+
+-- at the end of the call
+pub settled-due : (b : Buffer) (v : Verdict) (merged : Bool) {l : Limits} {r : Reply} → l ≡ mergeLimits merged 2 (v .limits)
+    → r ≡ settled b (record { idx = v .idx; len = v .len; «out_len» = v .«out_len»; limits = l; apart = v .apart; acts = v .acts; answer = v .answer }) → r ≡ settledMerged b v merged
+unfolding settledMerged
+settled-due b v merged el er = er ∙ ap (λ (l : Limits). settled b (record { idx = v .idx; len = v .len; «out_len» = v .«out_len»; limits = l; apart = v .apart; acts = v .acts; answer = v .answer })) el
+
+module _ {call : ℕ → Account ℕ → Result ℕ} {b : Buffer} {f s f″ s″ : List ℕ} {v : Verdict} {m : Bool} {r : Reply} {Ask : Type 0} {Act : Bool → (run other run′ other′ : List ℕ) → Type 0} (d : DecidedMerged call b f s v Ask Act) (er : r ≡ settledMerged b v m) where
+  pub merged-acted : {n : Bool} {f′ s′ : List ℕ} → m ≡ n → Sided (b .swapped) (Act n) f s f′ s′ → v .acts ≡ true → f″ ≡ f′ → s″ ≡ s′ → length f′ ≡ length f → length s′ ≡ length s → Meets call b f s r f″ s″
+  merged-acted {n} em act t ef es lf ls = rw (er, em, ef, es) (d .acted t n lf ls act)
+
+  pub merged-still : m ≡ false → v .acts ≡ false → f″ ≡ f → s″ ≡ s → Meets call b f s r f″ s″
+  merged-still em t ef es = rw (er, em, ef, es) (d .still t)
