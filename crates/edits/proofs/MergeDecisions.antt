@@ -106,6 +106,9 @@ module _ (b : Buffer) {apart merges : Bool} {s e : ℕ} {run other run′ other�
   pub merges-other : liesApart b ≡ false → other′ ≡ other
   merges-other h = w .first refl .apart-only (ea ∙ h)
 
+pub clusters-acts : (b : Buffer) (merges : Bool) (i j : ℕ) {r : Buffer} {run other run′ other′ : List ℕ} → merges ≡ clustersMerge (readLevel (b .level)) → Acts (merge merges i j) b run other r run′ other′ → Acts (merge (clustersMerge (readLevel (b .level))) i j) b run other r run′ other′
+clusters-acts b merges i j {r} {run} {other} {run′} {other′} em u = subst (λ (x : Bool). Acts (merge x i j) b run other r run′ other′) em u
+
 pub own-limits : (b : Buffer) (l : Limits) {r : Buffer} → r ≡ withLimitsOf l b → r ≡ withLimitsOf (r .limits) b
 unfolding withLimitsOf
 own-limits b l er = rw er

@@ -81,6 +81,15 @@ unfolding tailStart
 tail-most true c n ds = omega arith
 tail-most false c n ds = omega arith
 
+module _ (t : Bool) (c n : ℕ) (ds : List ℕ) where
+  pub tail-some : {at : ℕ} → t ≡ true → at ≡ n - tails (is c) ds → at ≡ tailStart t c ds n
+  unfolding tailStart
+  tail-some h e = rw h e
+
+  pub tail-none : t ≡ false → n ≡ tailStart t c ds n
+  unfolding tailStart
+  tail-none h = rw h
+
 -- a test of two places, counted from another
 eqb-shift : (g a b : ℕ) → g ≤ b → eqb (g + a) b ≡ eqb a (b - g)
 eqb-shift g a b o = pick (eqb a (b - g)) refl

@@ -6,7 +6,7 @@ use lib.Dec.{eqb}
 use lib.ListN.{take, length, getD}
 use lib.Seq.{slice, slice-cons}
 use borrow.Author.Tests.{eq-eqb, ne-eqb}
-use Rattle.records.specs.{Glyphs.Glyph, Ranges.is, Ranges.first, Ranges.last, Ranges.heads, Ranges.tails, Ranges.clusters}
+use Rattle.records.specs.{Glyphs.Glyph, Ranges.is, Ranges.least, Ranges.first, Ranges.last, Ranges.heads, Ranges.tails, Ranges.clusters}
 use Rattle.records.proofs.View.{length-clusters}
 use Rattle.lists.proofs.Runs.{slice-last}
 use Rattle.edits.specs.declared.{Merge.Merge}
@@ -62,7 +62,10 @@ module _ {l : List (Glyph ℕ)} {len s e m : ℕ} (v : MergeRange l len s e m) w
       let n : e ≤ len = v .inside in
       rw (slice-take idx s len (clusters l) (omega arith), range-is, first-is, ← v .lowest, t, ← ec) er
 
-  pub planned : (idx : ℕ) {c from to : ℕ} {b : Bool} → c ≡ getD (clusters l) s 4294967295 → from ≡ mergeStart idx s e (take len (clusters l)) → to ≡ mergeEnd s e (take len (clusters l))
+module _ (l : List (Glyph ℕ)) {len s e : ℕ} (order : s < e) (inside : e ≤ len) (fits : len ≤ length l) where
+  pub planned : (idx : ℕ) {c m from to : ℕ} {b : Bool} → m ≡ least (slice s e (clusters l)) → c ≡ getD (clusters l) s 4294967295 → from ≡ mergeStart idx s e (take len (clusters l)) → to ≡ mergeEnd s e (take len (clusters l))
       → b ≡ eqb from idx && not (eqb c m) → _≡_ {A = Merge} (record { lowest = m; leader = c; from = from; to = to; tail = b }) (mergePlan idx s e (take len (clusters l)))
   unfolding mergePlan
-  planned idx {c} {from} {to} {b} ec ef et eb = rw (range-is, first-is, ← v .lowest, ← ec, ← ef, ← et, ← eb)
+  planned idx {c} {m} {from} {to} {b} em ec ef et eb =
+      let v : MergeRange l len s e m = record { order = order; inside = inside; fits = fits; lowest = em } in
+      rw (range-is v, first-is v, ← em, ← ec, ← ef, ← et, ← eb)

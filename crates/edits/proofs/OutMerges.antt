@@ -20,11 +20,11 @@ use Rattle.edits.proofs.Bridge.{input-is, input-clusters, done-is, done
 
 -- ---- the plan
 module _ (l : List (Glyph ℕ)) (n s e : ℕ) (o : s < e) (b : e ≤ n) (f : n ≤ length l) where
-  pub out-planned : {m c d from to : ℕ} {h : Bool} → m ≡ least (slice s e (clusters l)) → c ≡ getD (clusters l) s 4294967295 → d ≡ getD (clusters l) (e - 1) 4294967295
-      → from ≡ s - tails (is c) (slice 0 s (clusters l)) → to ≡ e + heads (is d) (slice e n (clusters l)) → h ≡ eqb to n
-      → _≡_ {A = OutMerge} (record { lowest = m; closer = d; from = from; to = to; head = h }) (outPlan s e (cut n l))
+  pub out-planned : {m c d from to : ℕ} → m ≡ least (slice s e (clusters l)) → c ≡ getD (clusters l) s 4294967295 → d ≡ getD (clusters l) (e - 1) 4294967295
+      → from ≡ s - tails (is c) (slice 0 s (clusters l)) → to ≡ e + heads (is d) (slice e n (clusters l))
+      → _≡_ {A = OutMerge} (record { lowest = m; closer = d; from = from; to = to; head = eqb to n }) (outPlan s e (cut n l))
   unfolding outPlan outStart outEnd
-  out-planned {m} {c} {d} {from} {to} {h} em ec ed ef et eh =
+  out-planned {m} {c} {d} {from} {to} em ec ed ef et =
       let cs : List ℕ = clusters l in
       let w : e ≤ length cs = rw (length-clusters l) (omega arith) in
       let r : slice s e (cut n l) ≡ slice s e cs = slice-take s e n cs b in
@@ -32,7 +32,7 @@ module _ (l : List (Glyph ℕ)) (n s e : ℕ) (o : s < e) (b : e ≤ n) (f : n �
       let z : length (cut n l) ≡ n = length-take-le n cs (rw (length-clusters l) f) in
       let fi : first (slice s e cs) ≡ c = first-slice s e cs o w ∙ sym ec in
       let la : last (slice s e cs) ≡ d = last-slice s e cs o w ∙ sym ed in
-      rw (r, t, z, fi, la, ← em, ← ef, ← et, eh)
+      rw (r, t, z, fi, la, ← em, ← ef, ← et)
 
 module _ {run out : List (Glyph ℕ)} {idx len outLen s e : ℕ} (v : OutMergeable run out idx len outLen s e) (p : OutMerge) (ep : p ≡ outPlan s e (cut outLen out)) where
   pub out-order : (p .from ≤ p .to) × (p .to ≤ outLen)
@@ -63,6 +63,15 @@ module _ {run out : List (Glyph ℕ)} {idx len outLen s e : ℕ} (v : OutMergeab
       holds-limiting run out idx idx len outLen k (le-refl idx) (v .inside) (v .fits) (costs (e - s)) run′ out′ _ _
       (el ∙ rw (at-is, ep, cs-is, in-is, ds-is))
       (ed ∙ rw (ep, ds-is, d-is))
+
+module _ (t : Bool) (c idx : ℕ) (cs : List ℕ) where
+  pub head-some : {at : ℕ} → t ≡ true → at ≡ idx + heads (is c) cs → at ≡ headEnd t c idx cs
+  unfolding headEnd
+  head-some h e = rw h e
+
+  pub head-none : t ≡ false → idx ≡ headEnd t c idx cs
+  unfolding headEnd
+  head-none h = rw h (omega arith)
 
 -- the head of the input ends in the input
 head-order : (run : List (Glyph ℕ)) {idx len at : ℕ} (b : Bool) (c : ℕ) → idx ≤ len → len ≤ length run → at ≡ headEnd b c idx (slice idx len (clusters run)) → (idx ≤ at) × (at ≤ len)

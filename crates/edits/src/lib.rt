@@ -13,6 +13,7 @@ pub mod grouping;
 pub mod lent;
 pub mod marking;
 mod merge_acts;
+mod merge_verdicts;
 pub mod merges;
 pub mod merging;
 mod numbers;

@@ -1,27 +1,24 @@
 // Merging: calls 11 to 14.
 ghost use mathlib.Core.Path.{_≡_};
-ghost use mathlib.Core.Bool.{true, false, _&&_, _||_};
+ghost use mathlib.Core.Bool.{false, _&&_, _||_};
 ghost use Prim.Native.Nat.{_-_};
 ghost use lib.Dec.{ltb};
 ghost use Rattle.lists.specs.Account.{outputPhase, readLevel};
 ghost use Rattle.lists.specs.State.{goneOf};
 ghost use Rattle.lists.specs.States.{withLimitsOf};
 ghost use Rattle.lists.specs.Contract.{Meets};
-ghost use Rattle.lists.specs.Verdicts.{Leaves};
 ghost use Rattle.edits.specs.Merging.{merge, mergeInput, mergeDone, clustersMerge, graphemesMerge};
 ghost use Rattle.edits.specs.Acts.{Acts, Mergeful};
-ghost use Rattle.edits.specs.MergeActs.{mergeLimits, liesApart, MergesInput, MergesDone};
+ghost use Rattle.edits.specs.MergeActs.{liesApart};
 use super::merge_acts;
+use super::merge_verdicts;
 use lists::Buffer;
 use lists::Reply;
-use lists::Verdict;
 use lists::state;
 use lists::verdicts;
-use records::Answer;
 use records::DonePlace;
 use records::InputPlace;
 use records::Phase;
-use records::Refusal;
 
 // Whether there is an output and the other slice holds it.
 pub(crate) fn lies_apart(b: Buffer) -> bool
@@ -120,38 +117,6 @@ pub fn outside_input(b: Buffer, s: usize, e: usize) -> bool
     s < gone(b)
 }
 
-// The verdict on a merge of n glyphs that goes ahead.
-fn goes_ahead(b: Buffer, merges: bool, n: usize) -> Verdict
-    ensures { λ v. ⌜ Leaves (withLimitsOf (mergeLimits merges n (b .limits)) b) true Answer.Done v ⌝ }
-{
-    let limits = merge_acts::merge_limits(b.limits, merges, n);
-    verdicts::verdict(state::with_limits(b, limits), true, Answer::Done)
-}
-
-// 11 and 13, which merge at some levels.
-fn merge_verdict(
-    b: Buffer,
-    first: &[u32],
-    second: &[u32],
-    merges: bool,
-    start: InputPlace,
-    end: InputPlace,
-) -> Verdict
-    ensures { λ v. ⌜ MergesInput merges start end b (now (first .entry)) (now (second .entry)) v ⌝ }
-{
-    if state::is_sound(b, first, second) {
-        let phase = b.phase;
-        if state::is_spoiled(phase) {
-            return verdicts::refused(b, Refusal::WrongPhase);
-        }
-        if outside_input(b, start.0, end.0) {
-            return verdicts::refused(b, Refusal::OutOfRange);
-        }
-        return goes_ahead(b, merges, end.0 - start.0);
-    }
-    verdicts::refused(b, Refusal::Contradiction)
-}
-
 // 11
 pub fn merge_clusters(
     b: Buffer,
@@ -164,7 +129,7 @@ pub fn merge_clusters(
 {
     let merges = clusters_merge(b.level);
     let apart = lies_apart(b);
-    let v = merge_verdict(b, first, second, merges, start, end);
+    let v = merge_verdicts::merge_verdict(b, first, second, merges, start, end);
     if v.acts {
         merge_acts::merge_by(
             first,
@@ -195,7 +160,7 @@ pub fn merge_grapheme_clusters(
 {
     let merges = graphemes_merge(b.level);
     let apart = lies_apart(b);
-    let v = merge_verdict(b, first, second, merges, start, end);
+    let v = merge_verdicts::merge_verdict(b, first, second, merges, start, end);
     if v.acts {
         merge_acts::merge_by(
             first,
@@ -214,33 +179,6 @@ pub fn merge_grapheme_clusters(
     verdicts::settled(b, v)
 }
 
-// 12 and 14
-fn merge_out_verdict(
-    b: Buffer,
-    first: &[u32],
-    second: &[u32],
-    merges: bool,
-    start: DonePlace,
-    end: DonePlace,
-) -> Verdict
-    ensures { λ v. ⌜ MergesDone merges start end b (now (first .entry)) (now (second .entry)) v ⌝ }
-{
-    if state::is_sound(b, first, second) {
-        let phase = b.phase;
-        if state::have_output(phase) {
-            if end.0 < start.0 {
-                return verdicts::refused(b, Refusal::OutOfRange);
-            }
-            if b.out_len.0 < end.0 {
-                return verdicts::refused(b, Refusal::OutOfRange);
-            }
-            return goes_ahead(b, merges, end.0 - start.0);
-        }
-        return verdicts::refused(b, Refusal::WrongPhase);
-    }
-    verdicts::refused(b, Refusal::Contradiction)
-}
-
 // 12
 pub fn merge_out_clusters(
     b: Buffer,
@@ -252,7 +190,7 @@ pub fn merge_out_clusters(
     ensures { λ r. ⌜ Meets (λ capacity a. mergeDone (λ level. clustersMerge level) start end a) b (now (first .entry)) (now (second .entry)) r (now (first .exit)) (now (second .exit)) ⌝ }
 {
     let merges = clusters_merge(b.level);
-    let v = merge_out_verdict(b, first, second, merges, start, end);
+    let v = merge_verdicts::merge_out_verdict(b, first, second, merges, start, end);
     if v.acts {
         merge_acts::merge_out_by(
             first,
@@ -281,7 +219,7 @@ pub fn merge_out_grapheme_clusters(
     ensures { λ r. ⌜ Meets (λ capacity a. mergeDone (λ level. graphemesMerge level) start end a) b (now (first .entry)) (now (second .entry)) r (now (first .exit)) (now (second .exit)) ⌝ }
 {
     let merges = graphemes_merge(b.level);
-    let v = merge_out_verdict(b, first, second, merges, start, end);
+    let v = merge_verdicts::merge_out_verdict(b, first, second, merges, start, end);
     if v.acts {
         merge_acts::merge_out_by(
             first,

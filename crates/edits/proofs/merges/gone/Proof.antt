@@ -4,18 +4,6 @@ use borrow.Author.Needs.{needs}
 use Rattle.edits.proofs.merges.gone.Statement.{statement}
 use Rattle.edits.proofs.merges.gone.Tie as tie
 
-enum-told : tie.Need-enum-told
-enum-told c = search needs
-
-enum-told-2 : tie.Need-enum-told-2
-enum-told-2 c = search needs
-
-enum-told-3 : tie.Need-enum-told-3
-enum-told-3 c = search needs
-
-enum-told-4 : tie.Need-enum-told-4
-enum-told-4 c = search needs
-
 returns : tie.Need-returns
 returns c = gone-at _ _ (c .enum-told .given .1) refl
 
@@ -29,6 +17,4 @@ returns-4 : tie.Need-returns-4
 returns-4 c = gone-at _ _ (c .enum-told4 .given .1) refl
 
 pub gone-spec : {M : Type 1} → statement M
-gone-spec =
-    tie.close
-    (tie.spec enum-told enum-told-2 enum-told-3 enum-told-4 returns returns-2 returns-3 returns-4)
+gone-spec = tie.close (tie.spec (search needs) (search needs) (search needs) (search needs) returns returns-2 returns-3 returns-4)
