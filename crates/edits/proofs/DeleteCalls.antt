@@ -1,8 +1,8 @@
 -- Deletion by places, and what 0F comes to, outcome by outcome.
-use mathlib.Core.{Path._≡_, Path.refl, Path.sym, Path.ap, Path._∙_, Path.subst, Bool.Bool, Bool.true, Bool.false, Bool.cond, Bool.false≢true, List.List}
+use mathlib.Core.{Path._≡_, Path.refl, Path.sym, Path.ap, Path._∙_, Bool.Bool, Bool.true, Bool.false, Bool.cond, Bool.false≢true, List.List}
 use Prim.Native.Nat.{ℕ, _+_, _-_, _≤_, _<_}
 use native.Mathlib.Omega.{arith}
-use lib.{Dec.eqb, Dec.ltb, ListN.length, ListN.take, ListN.getD, Seq.slice}
+use lib.{Dec.eqb, Dec.ltb, ListN.length, ListN.take, ListN.getD}
 use Rattle.records.specs.{Contradiction, WrongPhase, OutOfRange, Answer, Done, No, Limits, Glyphs.setCluster, Ranges.clusters, Ranges.edit, Ranges.tails, Ranges.is, View.glyphs, View.seen, View.zeroGlyph}
 use Rattle.records.specs.declared.{Glyph.Glyph as Words}
 use Rattle.records.proofs.View.{glyphs-same}
@@ -10,7 +10,7 @@ use Rattle.lists.specs.declared.{Buffer.Buffer, Reply.Reply, Verdict.Verdict}
 use Rattle.lists.specs.{Account.Account, Account.readLevel, Account.outputPhase, Account.hasOutput, Cursor.dropping, Results.Result, Results.refused, Results.accepted, Results.refuse_when_else_, State.accountOf, State.goneOf, State.sound, States.reply, States.atPlaces, States.withLimitsOf, Contract.Meets, Verdicts.leaving, Verdicts.Leaves, Verdicts.settledBuffer, Verdicts.settled, Verdicts.Sided}
 use Rattle.lists.proofs.{Accounts.output-of, Accounts.sound-held}
 use Rattle.lists.proofs.Decisions.{acts-is, settles-unsound, settles-refused, meets-sided}
-use Rattle.edits.specs.{Acts.Acts, Deleting.survives, Deleting.deleted, Deleting.deleteGlyph, Merging.merge, Merging.clustersMerge, MergeActs.mergeLimits, MergeActs.Merges}
+use Rattle.edits.specs.{Acts.Acts, Deleting.deleted, Deleting.deleteGlyph, Merging.merge, Merging.clustersMerge, MergeActs.mergeLimits, MergeActs.Merges}
 use Rattle.edits.specs.Deletes.{Deletable, laid, DeleteRoom, NextFound, LastFound, Surviving, Inherits, Deletes, settledMerged, DecidedMerged}
 use Rattle.edits.proofs.Writings.{rest-short, rest-long}
 use Rattle.edits.proofs.MergeCalls.{in-acts}
@@ -72,10 +72,10 @@ module _ {separate t : Bool} {level idx len outLen : ℕ} {run other : List ℕ}
         → Deletes separate level idx len outLen merges run other run′ other′
     deletes-merges {merges} {run′} {other′} k l em m lr lo = record {
       acts = λ b v.
-        let y = laid separate level idx len outLen b in
-        let two : idx + 2 - idx ≡ 2 = omega arith in
-        deletes v (mergeLimits merges 2 (b .limits)) (rw two at (m .first refl .acts y (rw (v .output)) (next-mergeful v (omega arith)))) lr lo
-        (merge-deletes v (sym (w .is y v) ∙ h) k (omega arith) ∙ ap (λ (z : Bool). dropping 1 (merge z (idx - goneOf y) (idx + 2 - goneOf y) (accountOf y run other))) (sym em));
+          let y = laid separate level idx len outLen b in
+          let two : idx + 2 - idx ≡ 2 = omega arith in
+          deletes v (mergeLimits merges 2 (b .limits)) (rw two at (m .first refl .acts y (rw (v .output)) (next-mergeful v (omega arith)))) lr lo
+          (merge-deletes v (sym (w .is y v) ∙ h) k (omega arith) ∙ ap (λ (z : Bool). dropping 1 (merge z (idx - goneOf y) (idx + 2 - goneOf y) (accountOf y run other))) (sym em));
       own = m .first refl .apart-only;
     }
 
@@ -140,7 +140,7 @@ module _ {b : Buffer} {f s : List ℕ} {v : Verdict} where
         still = λ t. absurd (false≢true (sym t ∙ acts-is w));
         asked = λ t. delete-room (record { held = sound-held b f s h; output = o; some = k });
         acted = λ t merged lf ls act. meets-sided h lf ls act (λ run other run′ other′ l lr lo d.
-          in-acts (d .acts b (record { held = l .held; output = o; some = k })) (delete-accepts _ (output-of b run other ∙ o) (rest-long (l .held) o k)) (due-is b merged eb w));
+            in-acts (d .acts b (record { held = l .held; output = o; some = k })) (delete-accepts _ (output-of b run other ∙ o) (rest-long (l .held) o k)) (due-is b merged eb w));
       }
 
 -- at the end of the call

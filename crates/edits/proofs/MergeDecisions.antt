@@ -4,16 +4,16 @@ use Prim.Native.Nat.{ℕ, _-_, _≤_, _<_}
 use native.Mathlib.Omega.{arith}
 use borrow.Author.Tests.{le-leb, lt-leb, le-ltb, lt-ltb, ltb-false}
 use lib.{Dec.ltb, ListN.length, ListN.drop, Seq.slice}
-use Rattle.records.specs.{InputPlace, Contradiction, WrongPhase, OutOfRange, Done, No, Limits, Counters.capacityOf, Counters.costs, Ranges.clusters, View.glyphs}
+use Rattle.records.specs.{InputPlace, Contradiction, WrongPhase, OutOfRange, Done, No, Limits, Counters.costs, Ranges.clusters, View.glyphs}
 use Rattle.records.proofs.View.{glyphs-same}
-use Rattle.lists.specs.declared.{Buffer.Buffer, Reply.Reply, Verdict.Verdict}
-use Rattle.lists.specs.{Account.Account, Account.readLevel, Account.spoiledPhase, Account.isSpoiled, Results.refused, Results.accepted, Results.refuse_when_else_, State.goneOf, State.accountOf, State.sound, State.Soundness, States.withLimitsOf, Verdicts.Leaves, Verdicts.settled, Verdicts.Sided, Contract.Meets}
+use Rattle.lists.specs.declared.{Buffer.Buffer, Verdict.Verdict}
+use Rattle.lists.specs.{Account.Account, Account.readLevel, Account.spoiledPhase, Account.isSpoiled, Results.refused, Results.accepted, Results.refuse_when_else_, State.goneOf, State.accountOf, State.sound, State.Soundness, States.withLimitsOf, Verdicts.Leaves, Verdicts.settled, Verdicts.Sided, Verdicts.Decided}
 use Rattle.lists.proofs.{Accounts.spoiled-of, Accounts.level-of, Accounts.gone-of, Accounts.sound-held}
-use Rattle.lists.proofs.Decisions.{near-limits, leaves-as, decided-unsound, decided-refused, decided-does, end-acted, end-still}
+use Rattle.lists.proofs.Decisions.{near-limits, leaves-as, decided-unsound, decided-refused, decided-does}
 use Rattle.edits.specs.{Acts.Acts, Acts.Mergeful, Flags.interior, Flags.sought, Merging.merge, Merging.merged, Merging.mergeInput, Merging.outsideInput, Merging.clustersMerge, Merging.graphemesMerge, Plans.WrittenApart, Plans.WrittenWithin}
 use Rattle.edits.specs.MergeActs.{mergeLimits, liesApart, MergeRoom, Merges, MergesInput}
 use Rattle.edits.proofs.MergeLaws.{merged-apart}
-use Rattle.edits.proofs.MergeCalls.{acts-paid, acts-kept, in-acts, from-gone, ready-apart, apart-is, within-is, within-behind, width, flag-is, flag-behind, outside, outside-of, in-mergeful, neither-left}
+use Rattle.edits.proofs.MergeCalls.{acts-paid, acts-kept, in-acts, from-gone, ready-apart, apart-is, within-is, within-behind, width, flag-is, flag-behind, outside-of, in-mergeful, neither-left}
 
 -- ---- what a merge costs
 module _ (merges : Bool) (n : ℕ) (l : Limits) where
@@ -136,44 +136,39 @@ outside-ordered {b} {f} {g} {x} {t} {s} {e} w et h = ltb-false e s (neither-left
 
 module _ {merges : Bool} {s e : InputPlace} {b : Buffer} {f g : List ℕ} {v : Verdict} where
   pub merge-unsound : sound b f g ≡ false → Leaves b false (No Contradiction) v → MergesInput merges s e b f g v
-  merge-unsound h w = record { is = λ at em. decided-unsound h w }
+  merge-unsound h w = record { is = λ at em apart ea. decided-unsound h w }
 
   module _ (h : sound b f g ≡ true) where
     pub merge-spoiled : spoiledPhase (b .phase) ≡ true → Leaves b false (No WrongPhase) v → MergesInput merges s e b f g v
-    merge-spoiled p w = record { is = λ at em. decided-refused h (record { law = λ run other l. input-spoiled at s e _ (spoiled-of b run other ∙ p) }) w }
+    merge-spoiled p w = record { is = λ at em apart ea. decided-refused h (record { law = λ run other l. input-spoiled at s e _ (spoiled-of b run other ∙ p) }) w }
 
     module _ (p : spoiledPhase (b .phase) ≡ false) where
       pub merge-outside : (ltb (e .0) (s .0) || (ltb (b .len .0) (e .0) || ltb (s .0) (goneOf b))) ≡ true → Leaves b false (No OutOfRange) v → MergesInput merges s e b f g v
-      merge-outside k w = record { is = λ at em. decided-refused h (record { law = λ run other l. input-outside at s e _ (spoiled-of b run other ∙ p) (outside-of (l .held) s e p ∙ k) }) w }
+      merge-outside k w = record { is = λ at em apart ea. decided-refused h (record { law = λ run other l. input-outside at s e _ (spoiled-of b run other ∙ p) (outside-of (l .held) s e p ∙ k) }) w }
 
       pub merge-goes : (ltb (e .0) (s .0) || (ltb (b .len .0) (e .0) || ltb (s .0) (goneOf b))) ≡ false → Leaves (withLimitsOf (mergeLimits merges (e .0 - s .0) (b .limits)) b) true Done v → MergesInput merges s e b f g v
-      merge-goes k w = record { is = λ at em. decided-does h (record {
-        near = near-limits b _;
-        none = λ q. absurd (false≢true (sym q));
-        law = λ run other run′ other′ l lr lo act. in-acts (act .acts b refl (in-mergeful (l .held) s e p refl k))
-          (input-merges at s e _ (spoiled-of b run other ∙ p) (outside-of (l .held) s e p ∙ k)
-          ∙ (ap (λ (n : ℕ). accepted (merge (at ((accountOf b run other) .state .level)) (s .0 - n) (e .0 - n) (accountOf b run other))) (gone-of b run other)
-          ∙ ap (λ (y : Bool). accepted (merge y (s .0 - goneOf b) (e .0 - goneOf b) (accountOf b run other))) (ap at (level-of b run other) ∙ sym em))) refl;
-      }) (λ t. room-of (in-mergeful (sound-held b f g h) s e p refl k)) w }
+      merge-goes k w = record {
+        is = λ at em apart ea. decided-does h (record {
+          near = near-limits b _;
+          none = λ q. absurd (false≢true (sym q));
+          law = λ run other run′ other′ l lr lo act. in-acts (act .acts b (sym ea) (in-mergeful (l .held) s e p refl k))
+              (input-merges at s e _ (spoiled-of b run other ∙ p) (outside-of (l .held) s e p ∙ k)
+              ∙ (ap (λ (n : ℕ). accepted (merge (at ((accountOf b run other) .state .level)) (s .0 - n) (e .0 - n) (accountOf b run other))) (gone-of b run other)
+              ∙ ap (λ (y : Bool). accepted (merge y (s .0 - goneOf b) (e .0 - goneOf b) (accountOf b run other))) (ap at (level-of b run other) ∙ sym em))) refl;
+        }) (λ t. room-of (in-mergeful (sound-held b f g h) s e p refl k)) w;
+      }
 
 -- at the end of the calls
 module _ {merges : Bool} {s e : InputPlace} {b : Buffer} {f g : List ℕ} {v : Verdict} (w : MergesInput merges s e b f g v) where
   pub merge-room : v .acts ≡ true → MergeRoom (b .len .0) (b .«out_len» .0) (s .0) (e .0) f g
-  merge-room t = w .is (λ level. merges) refl .asked t
+  merge-room t = w .is (λ level. merges) refl (liesApart b) refl .asked t
 
-  module _ {r : Reply} {f″ g″ : List ℕ} (er : r ≡ settled b v) where
-    pub clusters-still : merges ≡ clustersMerge (readLevel (b .level)) → v .acts ≡ false → f″ ≡ f → g″ ≡ g → Meets (λ capacity a. mergeInput (λ level. clustersMerge level) s e a) b f g r f″ g″
-    clusters-still em t ef eg = end-still er (w .is _ em) t ef eg
+  module _ {apart : Bool} (ea : apart ≡ liesApart b) where
+    abbrev InputDecided : (ℕ → Bool) → Type 0
+    InputDecided at = Decided (λ capacity a. mergeInput at s e a) b f g (settled b v) (v .acts) (MergeRoom (b .len .0) (b .«out_len» .0) (s .0) (e .0) f g) (Merges apart merges (b .level) (b .idx .0) (b .len .0) (b .«out_len» .0) (s .0) (e .0))
 
-    pub graphemes-still : merges ≡ graphemesMerge (readLevel (b .level)) → v .acts ≡ false → f″ ≡ f → g″ ≡ g → Meets (λ capacity a. mergeInput (λ level. graphemesMerge level) s e a) b f g r f″ g″
-    graphemes-still em t ef eg = end-still er (w .is _ em) t ef eg
+    pub input-clusters : merges ≡ clustersMerge (readLevel (b .level)) → InputDecided (λ level. clustersMerge level)
+    input-clusters em = w .is (λ level. clustersMerge level) em apart ea
 
-    module _ {apart : Bool} {f′ g′ : List ℕ} (act : Sided (b .swapped) (Merges apart merges (b .level) (b .idx .0) (b .len .0) (b .«out_len» .0) (s .0) (e .0)) f g f′ g′) (ea : apart ≡ liesApart b) (t : v .acts ≡ true) where
-      acted : (at : ℕ → Bool) → merges ≡ at (readLevel (b .level)) → f″ ≡ f′ → g″ ≡ g′ → length f′ ≡ length f → length g′ ≡ length g → Meets (λ capacity a. mergeInput at s e a) b f g r f″ g″
-      acted at em ef eg lf lg = end-acted er (w .is at em) t ef eg lf lg (subst (λ (x : Bool). Sided (b .swapped) (Merges x merges (b .level) (b .idx .0) (b .len .0) (b .«out_len» .0) (s .0) (e .0)) f g f′ g′) ea act)
-
-      pub clusters-acted : merges ≡ clustersMerge (readLevel (b .level)) → f″ ≡ f′ → g″ ≡ g′ → length f′ ≡ length f → length g′ ≡ length g → Meets (λ capacity a. mergeInput (λ level. clustersMerge level) s e a) b f g r f″ g″
-      clusters-acted em = acted (λ level. clustersMerge level) em
-
-      pub graphemes-acted : merges ≡ graphemesMerge (readLevel (b .level)) → f″ ≡ f′ → g″ ≡ g′ → length f′ ≡ length f → length g′ ≡ length g → Meets (λ capacity a. mergeInput (λ level. graphemesMerge level) s e a) b f g r f″ g″
-      graphemes-acted em = acted (λ level. graphemesMerge level) em
+    pub input-graphemes : merges ≡ graphemesMerge (readLevel (b .level)) → InputDecided (λ level. graphemesMerge level)
+    input-graphemes em = w .is (λ level. graphemesMerge level) em apart ea

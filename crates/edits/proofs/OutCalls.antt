@@ -139,13 +139,15 @@ module _ {merges : Bool} {s e : DonePlace} {b : Buffer} {f g : List ℕ} {v : Ve
         done-end q w = record { is = λ at em. decided-refused h (record { law = λ run other l. done-outside at s e _ (output-of b run other ∙ o) (rw (le-ltb (e .0) (s .0) k, out-of b run other (l .held), lt-ltb (b .«out_len» .0) (e .0) q)) }) w }
 
         pub done-goes : e .0 ≤ b .«out_len» .0 → Leaves (withLimitsOf (mergeLimits merges (e .0 - s .0) (b .limits)) b) true Done v → MergesDone merges s e b f g v
-        done-goes q w = record { is = λ at em. decided-does h (record {
-          near = near-limits b _;
-          none = λ z. absurd (false≢true (sym z));
-          law = λ run other run′ other′ l lr lo act. in-acts (act .acts b refl (record { held = l .held; output = o; order = k; end = q }))
-            (done-merges at s e _ (output-of b run other ∙ o) (rw (le-ltb (e .0) (s .0) k, out-of b run other (l .held), le-ltb (b .«out_len» .0) (e .0) q))
-            ∙ ap (λ (y : Bool). accepted (mergeOut y (s .0) (e .0) (accountOf b run other))) (ap at (level-of b run other) ∙ sym em)) refl;
-        }) (λ t. let u = sound-held b f g h in record { order = k; end = q; out-fits = omega (arith, u .out-in, u .all-in); inside = u .idx-in; fits = omega (arith, u .len-in, u .all-in); same = glyphs-same f g (u .same) }) w }
+        done-goes q w = record {
+          is = λ at em. decided-does h (record {
+            near = near-limits b _;
+            none = λ z. absurd (false≢true (sym z));
+            law = λ run other run′ other′ l lr lo act. in-acts (act .acts b refl (record { held = l .held; output = o; order = k; end = q }))
+                (done-merges at s e _ (output-of b run other ∙ o) (rw (le-ltb (e .0) (s .0) k, out-of b run other (l .held), le-ltb (b .«out_len» .0) (e .0) q))
+                ∙ ap (λ (y : Bool). accepted (mergeOut y (s .0) (e .0) (accountOf b run other))) (ap at (level-of b run other) ∙ sym em)) refl;
+          }) (λ t. let u = sound-held b f g h in record { order = k; end = q; out-fits = omega (arith, u .out-in, u .all-in); inside = u .idx-in; fits = omega (arith, u .len-in, u .all-in); same = glyphs-same f g (u .same) }) w;
+        }
 
 -- at the end of the calls
 module _ {merges : Bool} {s e : DonePlace} {b : Buffer} {f g : List ℕ} {v : Verdict} (w : MergesDone merges s e b f g v) where

@@ -35,7 +35,7 @@ pub record Merges (apart merges : Bool) (level idx len outLen s e : ℕ) (run ot
 
 -- 11 and 13, of a call that merges at the levels `at`
 pub record MergesInput (merges : Bool) (s e : InputPlace) (b : Buffer) (f g : List ℕ) (v : Verdict) : Type 0 where
-  pub is : (at : ℕ → Bool) → merges ≡ at (readLevel (b .level)) → Decided (λ capacity a. mergeInput at s e a) b f g (settled b v) (v .acts) (MergeRoom (b .len .0) (b .«out_len» .0) (s .0) (e .0) f g) (Merges (liesApart b) merges (b .level) (b .idx .0) (b .len .0) (b .«out_len» .0) (s .0) (e .0))
+  pub is : (at : ℕ → Bool) → merges ≡ at (readLevel (b .level)) → (apart : Bool) → apart ≡ liesApart b → Decided (λ capacity a. mergeInput at s e a) b f g (settled b v) (v .acts) (MergeRoom (b .len .0) (b .«out_len» .0) (s .0) (e .0) f g) (Merges apart merges (b .level) (b .idx .0) (b .len .0) (b .«out_len» .0) (s .0) (e .0))
 
 -- s..e is a range of the output, in slices that are large enough
 pub record OutMergeRoom (idx len outLen s e : ℕ) (run other : List ℕ) : Type 0 where

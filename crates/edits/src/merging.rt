@@ -143,13 +143,7 @@ fn head_end(run: &[u32], idx: usize, len: usize, head: bool, closer: u32) -> usi
 }
 
 // A merge in the output by its plan, where the output is held apart.
-pub(crate) fn merge_out_apart(
-    run: &mut [u32],
-    out: &mut [u32],
-    idx: usize,
-    len: usize,
-    p: OutMerge,
-)
+pub(crate) fn merge_out_apart(run: &mut [u32], out: &mut [u32], idx: usize, len: usize, p: OutMerge)
     requires { ⌜ OutWritable p idx len (glyphs (now run)) (glyphs (now out)) ⌝ }
     ensures { λ r. ⌜ WrittenOutApart p idx len (glyphs (now (run .entry))) (glyphs (now (out .entry))) (glyphs (now (run .exit))) (glyphs (now (out .exit))) ⌝ }
 {

@@ -15,7 +15,7 @@ same-length-2 : tie.Need-same-length-2
 same-length-2 c = ⊎-elim (λ w. search (kept-length, needs)) (λ w. search (kept-length, needs)) (c .before .if1 .came)
 
 returns : tie.Need-returns
-returns c = let d = done-graphemes (c .before .before .merge-out-verdict .ensures) (c .before .before .before .before .before .graphemes-merge .ensures) in ⊎-elim (λ w. search (end-acted, d)) (λ w. search (end-still, d)) (c .before .if1 .came)
+returns c = let v = c .before .before .merge-out-verdict .ensures in ⊎-elim (λ w. search (end-acted, done-graphemes, v)) (λ w. search (end-still, done-graphemes, v)) (c .before .if1 .came)
 
 pub merge-out-grapheme-clusters-spec : {M : Type 1} → statement M
 merge-out-grapheme-clusters-spec = tie.close (tie.spec (search needs) (search needs) merge-out-by-requires (search needs) same-length same-length-2 returns)
