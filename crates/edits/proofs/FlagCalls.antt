@@ -151,23 +151,31 @@ module _ {concat : Bool} {start end : InputBound} {b : Buffer} {f s : List ℕ} 
 
     module _ {far idle : Bool} (p : spoiledPhase (b .phase) ≡ false) (ef : far ≡ tooFar (inputNumber start) (inputNumber end)) (ei : idle ≡ (not (not concat || wantsConcat (b .wants)) || far)) where
       pub plain-idle : idle ≡ true → Leaves b false Done v → FlagsInput concat start end b f s v
-      plain-idle k w = record { is = λ interiorly bits. decided-accepted h (accepts Done refl (near-same b) (λ run other l.
-        (plain-in-idle interiorly _ _ (inputBound start) (inputBound end) _ (spoiled-of b run other ∙ p) (idle-of b run other concat _ ef ei ∙ k), l .held))) w }
+      plain-idle k w = record {
+        is = λ interiorly bits. decided-accepted h (accepts Done refl (near-same b) (λ run other l.
+            (plain-in-idle interiorly _ _ (inputBound start) (inputBound end) _ (spoiled-of b run other ∙ p) (idle-of b run other concat _ ef ei ∙ k), l .held))) w;
+      }
 
       module _ {i j : ℕ} {out : Bool} (n : idle ≡ false) (es : i ≡ startOf (inputNumber start)) (ee : j ≡ endOf (inputNumber end) (b .len .0)) (eo : out ≡ (ltb j i || ltb i (goneOf b))) where
         pub plain-outside : out ≡ true → Leaves b false (No OutOfRange) v → FlagsInput concat start end b f s v
-        plain-outside y w = record { is = λ interiorly bits. decided-refused h (record { law = λ run other l.
-          plain-in-outside interiorly _ _ (inputBound start) (inputBound end) _ (spoiled-of b run other ∙ p) (idle-of b run other concat _ ef ei ∙ n) es (end-of end (l .held) p ee) (sym (gone-of b run other)) (sym eo ∙ y) }) w }
+        plain-outside y w = record {
+          is = λ interiorly bits. decided-refused h (record {
+            law = λ run other l.
+                plain-in-outside interiorly _ _ (inputBound start) (inputBound end) _ (spoiled-of b run other ∙ p) (idle-of b run other concat _ ef ei ∙ n) es (end-of end (l .held) p ee) (sym (gone-of b run other)) (sym eo ∙ y);
+          }) w;
+        }
 
         pub plain-ahead : out ≡ false → Leaves b true Done v → FlagsInput concat start end b f s v
-        plain-ahead y w = record { is = λ interiorly bits. rw (← es, ← ee) (decided-does h (record {
-          near = near-same b;
-          none = λ c. absurd (false≢true (sym c));
-          law = λ run other run′ other′ l lr lo act.
-            rw (act .other-is) (in-acts (plain-acts (mergeful end (l .held) p ee (sym eo ∙ y)) (bits (b .wants)) run′ interiorly lr (act .run-is))
-            (plain-in-flags interiorly _ _ (inputBound start) (inputBound end) _ (spoiled-of b run other ∙ p) (idle-of b run other concat _ ef ei ∙ n) es (end-of end (l .held) p ee) (sym (gone-of b run other)) (sym eo ∙ y)
-            ∙ ap (λ (x : ℕ). accepted (flagPlain interiorly (bits x) (i - goneOf b) (j - goneOf b) (accountOf b run other))) (wants-of b run other)) refl);
-        }) (λ c. flags-range (mergeful end (sound-held b f s h) p ee (sym eo ∙ y))) w) }
+        plain-ahead y w = record {
+          is = λ interiorly bits. rw (← es, ← ee) (decided-does h (record {
+            near = near-same b;
+            none = λ c. absurd (false≢true (sym c));
+            law = λ run other run′ other′ l lr lo act.
+                rw (act .other-is) (in-acts (plain-acts (mergeful end (l .held) p ee (sym eo ∙ y)) (bits (b .wants)) run′ interiorly lr (act .run-is))
+                (plain-in-flags interiorly _ _ (inputBound start) (inputBound end) _ (spoiled-of b run other ∙ p) (idle-of b run other concat _ ef ei ∙ n) es (end-of end (l .held) p ee) (sym (gone-of b run other)) (sym eo ∙ y)
+                ∙ ap (λ (x : ℕ). accepted (flagPlain interiorly (bits x) (i - goneOf b) (j - goneOf b) (accountOf b run other))) (wants-of b run other)) refl);
+          }) (λ c. flags-range (mergeful end (sound-held b f s h) p ee (sym eo ∙ y))) w);
+        }
 
 -- ---- the exported calls
 module _ {concat : Bool} {start end : InputBound} {b : Buffer} {f s : List ℕ} {v : Verdict} (d : FlagsInput concat start end b f s v) where

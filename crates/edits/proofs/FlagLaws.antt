@@ -56,10 +56,30 @@ part-end p l i j e v =
     let n : length (slice i j (clusters l)) ≡ j - i = length-slice i j (clusters l) (rw (length-clusters l) (v .1)) in
     omega (arith, heads-le p (slice i j (clusters l)), v .0)
 
--- ---- what a flag form seeks
-pub sought-ends : (level s e : ℕ) (cs : List ℕ) → seeksAll level ≡ false → s < e → e ≤ length cs → sought level (slice s e cs) ≡ min (getD cs s 4294967295) (getD cs (e - 1) 4294967295)
-unfolding sought
-sought-ends level s e cs n o b = rw (n, first-slice s e cs o b, last-slice s e cs o b)
+-- ---- what a flag form seeks, and whether it marks all that is not of it
+module _ (level m f e : ℕ) {t : Bool} (et : t ≡ seeksAll level) where
+  pub marks-seeks : t ≡ true → true ≡ (seeksAll level || (isnt m f && isnt m e))
+  marks-seeks h = rw (sym et ∙ h)
+
+  pub marks-first : t ≡ false → f ≡ m → false ≡ (seeksAll level || (isnt m f && isnt m e))
+  marks-first h k = rw (sym et ∙ h, eq-eqb f m k)
+
+  pub marks-last : t ≡ false → (f ≡ m → ⊥) → isnt m e ≡ (seeksAll level || (isnt m f && isnt m e))
+  marks-last h k = rw (sym et ∙ h, ne-eqb f m k)
+
+module _ (level s e : ℕ) (l : List (Glyph ℕ)) {t : Bool} (et : t ≡ seeksAll level) where
+  pub sought-least : {m : ℕ} → t ≡ true → m ≡ least (slice s e (clusters l)) → m ≡ sought level (slice s e (clusters l))
+  unfolding sought
+  sought-least h em = rw (sym et ∙ h) em
+
+  pub sought-ends : {m a c : ℕ} → t ≡ false → (s < e) × (e ≤ length l) → a ≡ getD (clusters l) s 4294967295 → c ≡ getD (clusters l) (e - 1) 4294967295 → m ≡ min a c → m ≡ sought level (slice s e (clusters l))
+  unfolding sought
+  sought-ends h v ea ec em =
+      let b : e ≤ length (clusters l) = rw (length-clusters l) (v .1) in
+      rw (sym et ∙ h, first-slice s e (clusters l) (v .0) b, last-slice s e (clusters l) (v .0) b, ← ea, ← ec) em
+
+pub interior-of : (level bits i j : ℕ) (l : List (Glyph ℕ)) {m n : ℕ} {l′ : List (Glyph ℕ)} → m ≡ n → l′ ≡ interior level m bits i j l → l′ ≡ interior level n bits i j l
+interior-of level bits i j l e el = el ∙ ap (λ (x : ℕ). interior level x bits i j l) e
 
 -- ---- flags in the input, seen from the input
 module _ (level m bits gone len i j : ℕ) (run : List (Glyph ℕ)) (oi : gone ≤ i) (oj : i ≤ j) (ol : j ≤ len) (of : len ≤ length run) where

@@ -116,23 +116,31 @@ module _ {concat : Bool} {start : DoneBound} {end : InputBound} {b : Buffer} {f 
 
     module _ {far idle : Bool} (p : outputPhase (b .phase) ≡ true) (ef : far ≡ tooFar (doneNumber start) (inputNumber end)) (ei : idle ≡ (not (not concat || wantsConcat (b .wants)) || far)) where
       pub out-idle : idle ≡ true → Leaves b false Done v → FlagsOut concat start end b f s v
-      out-idle k w = record { is = λ interiorly bits. decided-accepted h (accepts Done refl (near-same b) (λ run other l.
-        (out-in-idle interiorly _ _ (doneBound start) (inputBound end) _ (output-of b run other ∙ p) (idle-of b run other concat _ ef ei ∙ k), l .held))) w }
+      out-idle k w = record {
+        is = λ interiorly bits. decided-accepted h (accepts Done refl (near-same b) (λ run other l.
+            (out-in-idle interiorly _ _ (doneBound start) (inputBound end) _ (output-of b run other ∙ p) (idle-of b run other concat _ ef ei ∙ k), l .held))) w;
+      }
 
       module _ {i j : ℕ} {out : Bool} (n : idle ≡ false) (es : i ≡ startOf (doneNumber start)) (ee : j ≡ endOf (inputNumber end) (b .len .0)) (eo : out ≡ (ltb (b .«out_len» .0) i || ltb j (b .idx .0))) where
         pub out-outside : out ≡ true → Leaves b false (No OutOfRange) v → FlagsOut concat start end b f s v
-        out-outside y w = record { is = λ interiorly bits. decided-refused h (record { law = λ run other l.
-          out-in-outside interiorly _ _ (doneBound start) (inputBound end) _ (output-of b run other ∙ p) (idle-of b run other concat _ ef ei ∙ n) es (end-of end (l .held) (output-clean (b .phase) p) ee) (sym (idx-of b run other (l .held) (output-clean (b .phase) p))) (sym (out-of b run other (l .held))) (sym eo ∙ y) }) w }
+        out-outside y w = record {
+          is = λ interiorly bits. decided-refused h (record {
+            law = λ run other l.
+                out-in-outside interiorly _ _ (doneBound start) (inputBound end) _ (output-of b run other ∙ p) (idle-of b run other concat _ ef ei ∙ n) es (end-of end (l .held) (output-clean (b .phase) p) ee) (sym (idx-of b run other (l .held) (output-clean (b .phase) p))) (sym (out-of b run other (l .held))) (sym eo ∙ y);
+          }) w;
+        }
 
         pub out-ahead : out ≡ false → Leaves b true Done v → FlagsOut concat start end b f s v
-        out-ahead y w = record { is = λ interiorly bits. rw (← es, ← ee) (decided-does h (record {
-          near = near-same b;
-          none = λ c. absurd (false≢true (sym c));
-          law = λ run other run′ other′ l lr lo act.
-            in-acts (out-acts (placed end (l .held) p ee (sym eo ∙ y)) interiorly (bits (b .wants)) lr lo act)
-            (out-in-flags interiorly _ _ (doneBound start) (inputBound end) _ (output-of b run other ∙ p) (idle-of b run other concat _ ef ei ∙ n) es (end-of end (l .held) (output-clean (b .phase) p) ee) (sym (idx-of b run other (l .held) (output-clean (b .phase) p))) (sym (out-of b run other (l .held))) (sym eo ∙ y)
-            ∙ ap (λ (x : ℕ). accepted (flagOut interiorly (bits x) i (j - b .idx .0) (accountOf b run other))) (wants-of b run other)) refl;
-        }) (λ c. out-flaggable (placed end (sound-held b f s h) p ee (sym eo ∙ y))) w) }
+        out-ahead y w = record {
+          is = λ interiorly bits. rw (← es, ← ee) (decided-does h (record {
+            near = near-same b;
+            none = λ c. absurd (false≢true (sym c));
+            law = λ run other run′ other′ l lr lo act.
+                in-acts (out-acts (placed end (l .held) p ee (sym eo ∙ y)) interiorly (bits (b .wants)) lr lo act)
+                (out-in-flags interiorly _ _ (doneBound start) (inputBound end) _ (output-of b run other ∙ p) (idle-of b run other concat _ ef ei ∙ n) es (end-of end (l .held) (output-clean (b .phase) p) ee) (sym (idx-of b run other (l .held) (output-clean (b .phase) p))) (sym (out-of b run other (l .held))) (sym eo ∙ y)
+                ∙ ap (λ (x : ℕ). accepted (flagOut interiorly (bits x) i (j - b .idx .0) (accountOf b run other))) (wants-of b run other)) refl;
+          }) (λ c. out-flaggable (placed end (sound-held b f s h) p ee (sym eo ∙ y))) w);
+        }
 
 -- ---- the exported calls
 module _ {concat : Bool} {start : DoneBound} {end : InputBound} {b : Buffer} {f s : List ℕ} {v : Verdict} (d : FlagsOut concat start end b f s v) where

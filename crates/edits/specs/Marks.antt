@@ -60,7 +60,7 @@ pub record OutMarked (separate : Bool) (h k : List (Glyph ℕ) → List (Glyph �
 
 pub record OutFlagged (separate interiorly : Bool) (level bits idx outLen s e : ℕ) (run other run′ other′ : List ℕ) : Type 0 where
   pub is : (let m = soughtOut level s outLen idx e (glyphs run) (cond separate (glyphs other) (glyphs run)) in
-    OutMarked separate (flaggedPart interiorly level m bits s outLen) (flaggedPart interiorly level m bits idx e) run other run′ other′)
+      OutMarked separate (flaggedPart interiorly level m bits s outLen) (flaggedPart interiorly level m bits idx e) run other run′ other′)
 
 -- what is promised of a verdict on a plain form, whatever it marks with; only a concat form may be unwanted
 pub record FlagsInput (concat : Bool) (start end : InputBound) (b : Buffer) (f s : List ℕ) (v : Verdict) : Type 0 where

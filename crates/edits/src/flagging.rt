@@ -82,7 +82,9 @@ fn plain_verdict(
         if idles(concat, b.wants, bounds::input_too_far(start, end)) {
             return verdicts::verdict(b, false, Answer::Done);
         }
-        if outside_flags(b, bounds::input_start(start), bounds::input_end(end, b.len.0)) {
+        let s = bounds::input_start(start);
+        let e = bounds::input_end(end, b.len.0);
+        if outside_flags(b, s, e) {
             return verdicts::refused(b, Refusal::OutOfRange);
         }
         return verdicts::verdict(b, true, Answer::Done);
@@ -107,7 +109,9 @@ fn out_verdict(
             if idles(concat, b.wants, bounds::done_too_far(start, end)) {
                 return verdicts::verdict(b, false, Answer::Done);
             }
-            if outside_out(b, bounds::done_start(start), bounds::input_end(end, b.len.0)) {
+            let s = bounds::done_start(start);
+            let e = bounds::input_end(end, b.len.0);
+            if outside_out(b, s, e) {
                 return verdicts::refused(b, Refusal::OutOfRange);
             }
             return verdicts::verdict(b, true, Answer::Done);
@@ -169,7 +173,8 @@ pub fn safe_to_insert_tatweel(
     if v.acts {
         let s = bounds::input_start(start);
         let e = bounds::input_end(end, b.len.0);
-        marking::flag_by(first, second, b.swapped, true, b.level, tatweel_bits(b.wants), s, e);
+        let bits = tatweel_bits(b.wants);
+        marking::flag_by(first, second, b.swapped, true, b.level, bits, s, e);
     }
     verdicts::settled(b, v)
 }
@@ -188,7 +193,19 @@ pub fn unsafe_to_break_from_outbuffer(
     if v.acts {
         let s = bounds::done_start(start);
         let e = bounds::input_end(end, b.len.0);
-        marking::flag_out_by(first, second, b.swapped, b.have_separate_output, true, b.level, 3, b.idx.0, b.out_len.0, s, e);
+        marking::flag_out_by(
+            first,
+            second,
+            b.swapped,
+            b.have_separate_output,
+            true,
+            b.level,
+            3,
+            b.idx.0,
+            b.out_len.0,
+            s,
+            e,
+        );
     }
     verdicts::settled(b, v)
 }
@@ -207,7 +224,19 @@ pub fn unsafe_to_concat_from_outbuffer(
     if v.acts {
         let s = bounds::done_start(start);
         let e = bounds::input_end(end, b.len.0);
-        marking::flag_out_by(first, second, b.swapped, b.have_separate_output, false, b.level, 2, b.idx.0, b.out_len.0, s, e);
+        marking::flag_out_by(
+            first,
+            second,
+            b.swapped,
+            b.have_separate_output,
+            false,
+            b.level,
+            2,
+            b.idx.0,
+            b.out_len.0,
+            s,
+            e,
+        );
     }
     verdicts::settled(b, v)
 }

@@ -59,14 +59,7 @@ fn output_second(swapped: bool, separate: bool) -> bool
 }
 
 // The cluster that a form seeks in a range of the second slice, or of the first. An empty range has the largest word.
-fn sought_by(
-    first: &[u32],
-    second: &[u32],
-    in_second: bool,
-    level: u32,
-    s: usize,
-    e: usize,
-) -> u32
+fn sought_by(first: &[u32], second: &[u32], in_second: bool, level: u32, s: usize, e: usize) -> u32
     requires { ⌜ Flaggable s e (now first) (now second) ⌝ }
     ensures { λ r. ⌜ r ≡ sought (readLevel level) (slice s e (clusters (glyphs (cond «in_second» (now (second .entry)) (now (first .entry)))))) ⌝ }
 {
@@ -117,7 +110,8 @@ fn sought_out(
     requires { ⌜ OutFlaggable idx «out_len» s e (now first) (now second) ⌝ }
     ensures { λ r. ⌜ r ≡ soughtIn swapped separate (readLevel level) idx «out_len» s e (now (first .entry)) (now (second .entry)) ⌝ }
 {
-    let in_output = sought_by(first, second, output_second(swapped, separate), level, s, out_len);
+    let out = output_second(swapped, separate);
+    let in_output = sought_by(first, second, out, level, s, out_len);
     flags::lesser(in_output, sought_by(first, second, swapped, level, idx, e))
 }
 
@@ -138,7 +132,8 @@ fn mark_out_by(
     ensures { λ r. ⌜ Sided swapped (OutFlagged separate true (readLevel level) bits idx «out_len» s e) (now (first .entry)) (now (second .entry)) (now (first .exit)) (now (second .exit)) ⌝ }
 {
     let m = sought_out(first, second, swapped, separate, level, idx, out_len, s, e);
-    mark_by(first, second, output_second(swapped, separate), level, m, bits, s, out_len);
+    let out = output_second(swapped, separate);
+    mark_by(first, second, out, level, m, bits, s, out_len);
     mark_by(first, second, swapped, level, m, bits, idx, e);
 }
 
@@ -158,7 +153,8 @@ fn mark_all_by(
     requires { ⌜ OutFlaggable idx «out_len» s e (now first) (now second) ⌝ }
     ensures { λ r. ⌜ Sided swapped (OutFlagged separate false (readLevel level) bits idx «out_len» s e) (now (first .entry)) (now (second .entry)) (now (first .exit)) (now (second .exit)) ⌝ }
 {
-    flag_by(first, second, output_second(swapped, separate), false, level, bits, s, out_len);
+    let out = output_second(swapped, separate);
+    flag_by(first, second, out, false, level, bits, s, out_len);
     flag_by(first, second, swapped, false, level, bits, idx, e);
 }
 
@@ -180,8 +176,30 @@ pub(crate) fn flag_out_by(
     ensures { λ r. ⌜ Sided swapped (OutFlagged separate interiorly (readLevel level) bits idx «out_len» s e) (now (first .entry)) (now (second .entry)) (now (first .exit)) (now (second .exit)) ⌝ }
 {
     if interiorly {
-        mark_out_by(first, second, swapped, separate, level, bits, idx, out_len, s, e);
+        mark_out_by(
+            first,
+            second,
+            swapped,
+            separate,
+            level,
+            bits,
+            idx,
+            out_len,
+            s,
+            e,
+        );
     } else {
-        mark_all_by(first, second, swapped, separate, level, bits, idx, out_len, s, e);
+        mark_all_by(
+            first,
+            second,
+            swapped,
+            separate,
+            level,
+            bits,
+            idx,
+            out_len,
+            s,
+            e,
+        );
     }
 }

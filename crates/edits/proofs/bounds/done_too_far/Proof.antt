@@ -1,17 +1,7 @@
-use Rattle.edits.specs.Flags.{number, tooFar}
-use Rattle.edits.specs.Bounds.{doneBound}
+use Rattle.edits.specs.{Flags.number, Flags.tooFar, Bounds.doneBound}
 use borrow.Author.Needs.{needs}
 use Rattle.edits.proofs.bounds.done_too_far.Statement.{statement}
 use Rattle.edits.proofs.bounds.done_too_far.Tie as tie
-
-enum-told : tie.Need-enum-told
-enum-told c = search needs
-
-enum-known-start : tie.Need-enum-known-start
-enum-known-start c = search needs
-
-ends-too-far-requires : tie.Need-ends-too-far-requires
-ends-too-far-requires c κs = search needs
 
 returns : tie.Need-returns
 unfolding tooFar number doneBound
@@ -22,5 +12,4 @@ unfolding number doneBound
 returns-2 c = rw (c .before .before .start .given .1) (c .ends-too-far .ensures)
 
 pub done-too-far-spec : {M : Type 1} → statement M
-done-too-far-spec =
-    tie.close (tie.spec enum-told enum-known-start ends-too-far-requires returns returns-2)
+done-too-far-spec = tie.close (tie.spec (search needs) (search needs) (search needs) returns returns-2)

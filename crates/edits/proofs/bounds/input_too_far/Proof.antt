@@ -1,17 +1,7 @@
-use Rattle.edits.specs.Flags.{number, tooFar}
-use Rattle.edits.specs.Bounds.{inputBound}
+use Rattle.edits.specs.{Flags.number, Flags.tooFar, Bounds.inputBound}
 use borrow.Author.Needs.{needs}
 use Rattle.edits.proofs.bounds.input_too_far.Statement.{statement}
 use Rattle.edits.proofs.bounds.input_too_far.Tie as tie
-
-enum-told : tie.Need-enum-told
-enum-told c = search needs
-
-enum-known-start : tie.Need-enum-known-start
-enum-known-start c = search needs
-
-ends-too-far-requires : tie.Need-ends-too-far-requires
-ends-too-far-requires c κs = search needs
 
 returns : tie.Need-returns
 unfolding tooFar number inputBound
@@ -22,5 +12,4 @@ unfolding number inputBound
 returns-2 c = rw (c .before .before .start .given .1) (c .ends-too-far .ensures)
 
 pub input-too-far-spec : {M : Type 1} → statement M
-input-too-far-spec =
-    tie.close (tie.spec enum-told enum-known-start ends-too-far-requires returns returns-2)
+input-too-far-spec = tie.close (tie.spec (search needs) (search needs) (search needs) returns returns-2)

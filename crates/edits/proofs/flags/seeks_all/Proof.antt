@@ -5,11 +5,8 @@ use borrow.Author.Needs.{needs}
 use Rattle.edits.proofs.flags.seeks_all.Statement.{statement}
 use Rattle.edits.proofs.flags.seeks_all.Tie as tie
 
-read-level-requires : tie.Need-read-level-requires
-read-level-requires c κs = search needs
-
 returns : tie.Need-returns
 returns c = ap (λ (k : ℕ). eqb k 2) (c .read-level .ensures)
 
 pub seeks-all-spec : {M : Type 1} → statement M
-seeks-all-spec = tie.close (tie.spec read-level-requires returns)
+seeks-all-spec = tie.close (tie.spec (search needs) returns)
