@@ -18,7 +18,7 @@ use Rattle.edits.proofs.Holding.{edit-drop-behind}
 use Rattle.edits.proofs.MergeCalls.{account-apart, account-within, acts-free, from-gone, range-apart, range-within, out-low, width, flag-is, flag-behind, neither-left, neither-right, in-acts}
 
 -- what a plain form does
-abbrev pub flagPlain : Bool → ℕ → ℕ → ℕ → Account ℕ → Account ℕ
+abbrev flagPlain : Bool → ℕ → ℕ → ℕ → Account ℕ → Account ℕ
 flagPlain interiorly bits i j a = cond interiorly (flagInterior bits i j a) (flagAll bits i j a)
 
 -- ---- in each phase that has lists
@@ -61,7 +61,7 @@ module _ {b : Buffer} {run other : List ℕ} {s e : ℕ} (v : Mergeful b s e run
   unfolding flagInterior
   short-is h eg = account-same b run run′ other eg ∙ rw (width v, h)
 
-  pub plain-acts : (interiorly : Bool) → length run′ ≡ length run → glyphs run′ ≡ flaggedRun interiorly (readLevel (b .level)) bits s e (glyphs run)
+  plain-acts : (interiorly : Bool) → length run′ ≡ length run → glyphs run′ ≡ flaggedRun interiorly (readLevel (b .level)) bits s e (glyphs run)
       → Acts (flagPlain interiorly bits (s - goneOf b) (e - goneOf b)) b run other b run′ other
   unfolding flaggedRun
   plain-acts true lr eg = by-width (ltb (e - s) 2) refl

@@ -6,7 +6,7 @@ use native.Mathlib.Omega.{arith}
 use lib.Dec.{ltb}
 use lib.ListN.{take, drop, length, getD}
 use lib.Seq.{slice, slice-empty, length-slice}
-use borrow.Author.Tests.{eq-eqb, ne-eqb, lt-ltb, le-ltb}
+use borrow.Author.Tests.{eq-eqb, ne-eqb, le-ltb}
 use Rattle.records.specs.{Glyphs.Glyph, Glyphs.flagged, Glyphs.flaggedUnless, Ranges.edit, Ranges.is, Ranges.isnt, Ranges.least, Ranges.first, Ranges.last, Ranges.heads, Ranges.tails, Ranges.clusters}
 use Rattle.records.proofs.View.{length-clusters}
 use Rattle.lists.specs.Account.{Account, State, input, withInput}
@@ -155,11 +155,6 @@ width : (g s e : ℕ) → g ≤ s → s ≤ e → e - g - (s - g) ≡ e - s
 width g s e o p = omega arith
 
 module _ {run out : List (Glyph ℕ)} {gone idx len outLen s e : ℕ} (v : InputRange run out len outLen s e) (w : InputFrom gone idx len s) (bits : ℕ) (k : State) where
-  -- under two glyphs
-  pub flagged-none : e - s < 2 → holds run out gone idx len outLen k ≡ flagInterior bits (s - gone) (e - gone) (holds run out gone idx len outLen k)
-  unfolding flagInterior
-  flagged-none h = rw (lt-ltb (e - gone - (s - gone)) 2 (rw (width gone s e (w .start) (v .order)) h))
-
   pub flagged-held : (level : ℕ) {run′ : List (Glyph ℕ)} (out′ : List (Glyph ℕ)) → 2 ≤ e - s → k .level ≡ level → run′ ≡ interior level (sought level (slice s e (clusters run))) bits s e run → take outLen out′ ≡ take outLen out
       → holds run′ out′ gone idx len outLen k ≡ flagInterior bits (s - gone) (e - gone) (holds run out gone idx len outLen k)
   unfolding flagInterior

@@ -1,16 +1,16 @@
 -- The outbuffer flag forms: from what the slice workers leave to the account, and the calls.
 use mathlib.Core.{Path._≡_, Path.refl, Path.sym, Path.ap, Path._∙_, Path.subst, Bool.Bool, Bool.true, Bool.false, Bool.cond, Bool.not, Bool._||_, Bool.false≢true, Option.Option, List.List}
-use Prim.Native.Nat.{ℕ, _-_, _≤_, _<_}
+use Prim.Native.Nat.{ℕ, _-_, _≤_}
 use native.Mathlib.Omega.{arith}
-use borrow.Author.Tests.{le-ltb, lt-ltb, ltb-false}
+use borrow.Author.Tests.{ltb-false}
 use lib.{Dec.ltb, ListN.length, ListN.drop}
 use Rattle.records.specs.{DonePlace, InputPlace, Contradiction, WrongPhase, OutOfRange, Done, No, Glyphs.Glyph, View.glyphs}
 use Rattle.records.proofs.View.{glyphs-same}
 use Rattle.lists.specs.declared.{Buffer.Buffer, Verdict.Verdict}
 use Rattle.lists.specs.{Account.readLevel, Account.Account, Account.outputPhase, Account.hasOutput, Account.len, Account.idx, Account.outLen, Account.withLimits, Results.refused, Results.accepted, Results.refuse_when_else_, State.accountOf, State.stateOf, State.sound, State.Held, States.withLimitsOf, Verdicts.Leaves, Verdicts.settled, Verdicts.Sided, Verdicts.Decided}
-use Rattle.lists.proofs.{Accounts.output-of, Accounts.out-of, Accounts.idx-of, Accounts.len-of, Accounts.wants-of, Accounts.output-clean, Accounts.sound-held, Decisions.near-same, Decisions.accepts, Decisions.decided-unsound, Decisions.decided-refused, Decisions.decided-accepted, Decisions.decided-does}
+use Rattle.lists.proofs.{Accounts.output-of, Accounts.out-of, Accounts.idx-of, Accounts.wants-of, Accounts.output-clean, Accounts.sound-held, Decisions.near-same, Decisions.accepts, Decisions.decided-unsound, Decisions.decided-refused, Decisions.decided-accepted, Decisions.decided-does}
 use Rattle.edits.specs.declared.{InputBound.InputBound, DoneBound.DoneBound}
-use Rattle.edits.specs.{Acts.Acts, Bounds.inputBound, Bounds.inputNumber, Bounds.doneBound, Bounds.doneNumber, Flags.number, Flags.tooFar, Flags.startOf, Flags.endOf, Flags.outbufferForm, Flags.wantsConcat, Marks.flaggedPart, Marks.soughtOut, Marks.flagOut, Marks.OutFlaggable, Marks.OutMarked, Marks.OutFlagged, Marks.FlagsOut, Plans.OutRange}
+use Rattle.edits.specs.{Acts.Acts, Bounds.inputBound, Bounds.inputNumber, Bounds.doneBound, Bounds.doneNumber, Flags.number, Flags.tooFar, Flags.startOf, Flags.endOf, Flags.outbufferForm, Flags.wantsConcat, Marks.flaggedPart, Marks.soughtOut, Marks.flagOut, Marks.OutFlaggable, Marks.OutFlagged, Marks.FlagsOut, Plans.OutRange}
 use Rattle.edits.proofs.BoundLaws.{end-most}
 use Rattle.edits.proofs.FlagCalls.{idle-of, end-of}
 use Rattle.edits.proofs.OutFlags.{part-behind, middle-fits, out-flagged-apart, out-flagged-within}
