@@ -116,5 +116,10 @@ module _ {x separate out : Bool} {level bits idx outLen s e : ℕ} {f g f₁ g�
       part : {i j : ℕ} {run other run′ other′ : List ℕ} → Flagged false level bits i j run other run′ other′ → Part (edit i j (flagged bits)) run other run′ other′
       part {i} {j} {run} {other} {run′} {other′} w = record { run-is = w .run-is; other-is = w .other-is }
 
-pub form-as : {x separate y interiorly : Bool} {level bits idx outLen s e : ℕ} {f g f′ g′ : List ℕ} → interiorly ≡ y → Sided x (OutFlagged separate y level bits idx outLen s e) f g f′ g′ → Sided x (OutFlagged separate interiorly level bits idx outLen s e) f g f′ g′
-form-as h w = rw h w
+-- which of the two a form is
+module _ {x separate interiorly : Bool} {level idx outLen s e : ℕ} {f g f′ g′ : List ℕ} where
+  pub form-interior : interiorly ≡ true → Sided x (OutFlagged separate true level 3 idx outLen s e) f g f′ g′ → Sided x (OutFlagged separate interiorly level (cond interiorly 3 2) idx outLen s e) f g f′ g′
+  form-interior h w = rw h w
+
+  pub form-all : interiorly ≡ false → Sided x (OutFlagged separate false level 2 idx outLen s e) f g f′ g′ → Sided x (OutFlagged separate interiorly level (cond interiorly 3 2) idx outLen s e) f g f′ g′
+  form-all h w = rw h w

@@ -158,7 +158,7 @@ fn mark_all_by(
     flag_by(first, second, swapped, false, level, bits, idx, e);
 }
 
-// An outbuffer form.
+// An outbuffer form: of 18 the interior, of 19 every glyph.
 pub(crate) fn flag_out_by(
     first: &mut [u32],
     second: &mut [u32],
@@ -166,14 +166,13 @@ pub(crate) fn flag_out_by(
     separate: bool,
     interiorly: bool,
     level: u32,
-    bits: u32,
     idx: usize,
     out_len: usize,
     s: usize,
     e: usize,
 )
     requires { ⌜ OutFlaggable idx «out_len» s e (now first) (now second) ⌝ }
-    ensures { λ r. ⌜ Sided swapped (OutFlagged separate interiorly (readLevel level) bits idx «out_len» s e) (now (first .entry)) (now (second .entry)) (now (first .exit)) (now (second .exit)) ⌝ }
+    ensures { λ r. ⌜ Sided swapped (OutFlagged separate interiorly (readLevel level) (cond interiorly 3 2) idx «out_len» s e) (now (first .entry)) (now (second .entry)) (now (first .exit)) (now (second .exit)) ⌝ }
 {
     if interiorly {
         mark_out_by(
@@ -182,7 +181,7 @@ pub(crate) fn flag_out_by(
             swapped,
             separate,
             level,
-            bits,
+            3,
             idx,
             out_len,
             s,
@@ -195,7 +194,7 @@ pub(crate) fn flag_out_by(
             swapped,
             separate,
             level,
-            bits,
+            2,
             idx,
             out_len,
             s,
