@@ -1,16 +1,16 @@
 -- The flags of neighbours of one cluster: the loop over the groups.
-use mathlib.Core.{Path._≡_, Path.refl, Path.ap, Path.ap₂, Path.sym, Path._∙_, Bool.true, Bool.false, List.List, List.[], List._∷_, List.map}
+use mathlib.Core.{Path._≡_, Path.refl, Path.ap, Path.ap₂, Path.sym, Path._∙_, Bool.false, List.List, List.[], List._∷_, List.map}
 use Prim.Native.Nat.{ℕ, suc, _+_, _-_, _%_, _≤_, _<_, zero-le}
 use native.Mathlib.Nat.{le-refl}
 use native.Mathlib.Omega.{arith}
 use lib.{Bits.bitOr, Bits.or-zero-r, ListN.take, ListN.drop, ListN.length, ListN.getD, ListN.set, Seq.slice, Seq.slice-empty, Seq.slice-cons}
-use Rattle.records.specs.{Phase, Plain, Done, Glyphs.Glyph, Glyphs.Info, Glyphs.change, Glyphs.withMask, Glyphs.withPosition, Ranges.infos, Ranges.clusters, Ranges.edit, Ranges.heads, Ranges.is, View.glyphs, View.zeroGlyph}
+use Rattle.records.specs.{Phase, Plain, Glyphs.Glyph, Glyphs.Info, Glyphs.change, Glyphs.withMask, Glyphs.withPosition, Ranges.infos, Ranges.clusters, Ranges.edit, Ranges.heads, Ranges.is, View.glyphs, View.zeroGlyph}
 use Rattle.records.proofs.View.{glyphs-same}
 use Rattle.lists.specs.declared.{Buffer.Buffer, Verdict.Verdict}
-use Rattle.lists.specs.{Account.Account, Account.spoiledPhase, Account.withRest, Masks.joinedLow, Results.accepted, Results.refuse_when_else_, State.shown, State.accountOf, Verdicts.Decided}
+use Rattle.lists.specs.{Account.spoiledPhase, Account.withRest, Masks.joinedLow, Results.accepted, Results.refuse_when_else_, State.shown, State.accountOf, Verdicts.Decided}
 use Rattle.lists.specs.Verdicts as verdicts
 use Rattle.lists.proofs.{Accounts.wants-of, Editing.edit-up, Editing.edit-empty, Infos.length-words, Infos.word-of, Infos.map-take, Infos.map-drop, Infos.words-edit}
-use Rattle.edits.specs.{Groups.sizes, Groups.sameCluster, Groups.joined, Groups.settled, Groups.propagated, Groups.propagateFlags, WholeRun.notWhole, Wholes.WholeInput, Wholes.RunOf, Wholes.TakesWhole, Propagating.Propagates, Propagating.PropagatesRun}
+use Rattle.edits.specs.{Groups.sizes, Groups.sameCluster, Groups.joined, Groups.settled, Groups.propagated, Groups.propagateFlags, Wholes.WholeInput, Wholes.RunOf, Wholes.TakesWhole, Propagating.Propagates, Propagating.PropagatesRun}
 use Rattle.records.proofs.Pairs.{mask-alone}
 use Rattle.edits.proofs.{Holding.edit-take, Holding.edit-drop-behind, Holding.slice-take, Places.Apart, Places.shown-edit, WholeInputs.whole-acts, MergeCalls.in-acts, WholeInputs.not-not-whole, WholeCalls.OnRun, WholeCalls.takes-decided, GroupLaws.Group, GroupLaws.no-group, GroupLaws.cluster-group, GroupLaws.clusters-same, GroupLaws.seen-words}
 

@@ -18,6 +18,9 @@ abbrev pub wholeTest : Buffer → Bool
 wholeTest b = outputPhase (b .phase) || (spoiledPhase (b .phase) || ltb 0 (b .idx .0))
 
 module _ (o s t : Bool) where
+  pub test-output : o ≡ true → true ≡ (o || (s || t))
+  test-output h = rw h
+
   pub test-spoiled : o ≡ false → s ≡ true → true ≡ (o || (s || t))
   test-spoiled h k = rw (h, k)
 

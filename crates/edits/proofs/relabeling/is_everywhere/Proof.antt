@@ -3,10 +3,10 @@ use Rattle.edits.proofs.relabeling.is_everywhere.Statement.{statement}
 use Rattle.edits.proofs.relabeling.is_everywhere.Tie as tie
 
 returns : tie.Need-returns
-returns c = let a = c .before .args in everywhere-start (a .start) (a .end) (c .if1 .taken)
+returns c = search everywhere-start
 
 returns-2 : tie.Need-returns-2
-returns-2 c = let a = c .before .args in everywhere-not (a .start) (a .end) (c .if1 .left)
+returns-2 c = search everywhere-not
 
 pub is-everywhere-spec : {M : Type 1} → statement M
 is-everywhere-spec =

@@ -7,13 +7,13 @@ is-everywhere-requires : tie.Need-is-everywhere-requires
 is-everywhere-requires c κs = search needs
 
 returns : tie.Need-returns
-returns c = let a = c .before .before .args in masked-everywhere (a .start) (a .end) (a .cluster) (c .before .is-everywhere .ensures) (c .if1 .taken)
+returns c = search masked-everywhere
 
 returns-2 : tie.Need-returns-2
-returns-2 c = let a = c .before .before .before .args in masked-from (a .start) (a .end) (a .cluster) (c .before .before .is-everywhere .ensures) (c .before .if1 .left) (c .if2 .taken)
+returns-2 c = search masked-from
 
 returns-3 : tie.Need-returns-3
-returns-3 c = let a = c .before .before .before .args in masked-before (a .start) (a .end) (a .cluster) (c .before .before .is-everywhere .ensures) (c .before .if1 .left) (c .if2 .left)
+returns-3 c = search masked-before
 
 pub is-masked-spec : {M : Type 1} → statement M
 is-masked-spec =

@@ -22,13 +22,13 @@ same-length : tie.Need-same-length
 same-length c = search needs
 
 returns : tie.Need-returns
-returns c = masked-one _ _ _ _ _ _ (c .before .before .before .before .before .before .before .before .before .cluster-at .ensures) (c .before .before .before .before .before .before .before .before .is-masked .ensures) (c .before .before .before .before .before .before .before .if1 .taken) (c .before .before .before .before .before .mask-at .ensures) (c .before .before .before .replaced-bits .ensures) (c .before .before .set-mask .ensures)
+returns c = search masked-one
 
 same-length-2 : tie.Need-same-length-2
 same-length-2 c = search needs
 
 returns-2 : tie.Need-returns-2
-returns-2 c = unmasked _ _ _ _ _ _ (c .before .before .cluster-at .ensures) (c .before .is-masked .ensures) (c .if1 .left)
+returns-2 c = search unmasked
 
 pub mask-glyph-spec : {M : Type 1} → statement M
 mask-glyph-spec =

@@ -3,6 +3,7 @@ use Prim.Native.Nat.{_-_, zero-le}
 use native.Mathlib.Omega.{arith}
 use Rattle.lists.proofs.Editing.{Editing, editing-none, editing-more, editing-done}
 use Rattle.edits.specs.WholeRun.{masked}
+use borrow.Author.Needs.{needs}
 use Rattle.edits.proofs.relabeling.mask_glyphs.Statement.{statement}
 use Rattle.edits.proofs.relabeling.mask_glyphs.Tie as tie
 
@@ -13,7 +14,7 @@ abbrev μ-loop : tie.MeasureT-loop
 μ-loop ws₀ n value mask start end i₀ ws i = n - i
 
 loop-holds : tie.Need-loop-holds Inv-loop μ-loop
-loop-holds c = editing-none zero-le (c .before .pre)
+loop-holds c = search (editing-none, zero-le)
 
 mask-glyph-requires : tie.Need-mask-glyph-requires Inv-loop μ-loop
 mask-glyph-requires c κs = omega arith
@@ -25,16 +26,13 @@ loop-less : tie.Need-loop-less Inv-loop μ-loop
 loop-less c = omega arith
 
 loop-again : tie.Need-loop-again Inv-loop μ-loop
-loop-again c =
-    let call = c .before .before in
-    let turn = call .before .before in
-    editing-more (turn .before .loop .inv) (turn .loop-test .taken) (call .mask-glyph .ensures) (call .mask-glyph .kept .0)
+loop-again c = search editing-more
 
 same-length : tie.Need-same-length Inv-loop μ-loop
-same-length c = c .before .loop .inv .len
+same-length c = search needs
 
 returns : tie.Need-returns Inv-loop μ-loop
-returns c = editing-done (c .before .loop .inv) (c .loop-test .left)
+returns c = search editing-done
 
 pub mask-glyphs-spec : {M : Type 1} → statement M
 mask-glyphs-spec =

@@ -2,6 +2,7 @@
 use Prim.Native.Nat.{_-_}
 use native.Mathlib.Omega.{arith}
 use Rattle.edits.proofs.Relabelings.{Numbering, numbering-none, numbering-more, numbering-done}
+use borrow.Author.Needs.{needs}
 use Rattle.edits.proofs.relabeling.number_clusters.Statement.{statement}
 use Rattle.edits.proofs.relabeling.number_clusters.Tie as tie
 
@@ -12,7 +13,7 @@ abbrev μ-loop : tie.MeasureT-loop
 μ-loop ws₀ n i₀ ws i = n - i
 
 loop-holds : tie.Need-loop-holds Inv-loop μ-loop
-loop-holds c = numbering-none (c .before .pre .0) (c .before .pre .1)
+loop-holds c = search numbering-none
 
 cast-reset-cluster : tie.Need-cast-reset-cluster Inv-loop μ-loop
 cast-reset-cluster c = omega arith
@@ -27,16 +28,13 @@ loop-less : tie.Need-loop-less Inv-loop μ-loop
 loop-less c = omega arith
 
 loop-again : tie.Need-loop-again Inv-loop μ-loop
-loop-again c =
-    let call = c .before .before in
-    let turn = call .before .before in
-    numbering-more (turn .before .loop .inv) (turn .loop-test .taken) (call .reset-cluster .ensures) (call .reset-cluster .kept .0)
+loop-again c = search numbering-more
 
 same-length : tie.Need-same-length Inv-loop μ-loop
-same-length c = c .before .loop .inv .len
+same-length c = search needs
 
 returns : tie.Need-returns Inv-loop μ-loop
-returns c = numbering-done (c .before .loop .inv) (c .loop-test .left)
+returns c = search numbering-done
 
 pub number-clusters-spec : {M : Type 1} → statement M
 number-clusters-spec =

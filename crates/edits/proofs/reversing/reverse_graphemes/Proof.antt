@@ -1,4 +1,4 @@
-use mathlib.Core.Path.{sym, _∙_}
+use Rattle.lists.proofs.Decisions.{is-sound, is-unsound}
 use Rattle.lists.proofs.Accounts.{sound-held, held-turned}
 use Rattle.lists.proofs.Calls.{shell-first, shell-second, shell-unsound}
 use borrow.Author.Needs.{needs}
@@ -9,7 +9,7 @@ is-sound-requires : tie.Need-is-sound-requires
 is-sound-requires c κs = search needs
 
 reverse-graphemes-in-requires : tie.Need-reverse-graphemes-in-requires
-reverse-graphemes-in-requires c κs = held-turned _ _ _ (sound-held _ _ _ (sym (c .before .before .before .before .is-sound .ensures .is) ∙ c .before .before .before .if1 .taken))
+reverse-graphemes-in-requires c κs = search (held-turned, sound-held, is-sound)
 
 same-length : tie.Need-same-length
 same-length c = search needs
@@ -18,10 +18,10 @@ same-length-2 : tie.Need-same-length-2
 same-length-2 c = search needs
 
 returns : tie.Need-returns
-returns c = let call = c .before .before .before .before .reverse-graphemes-in in shell-second (sym (c .before .before .before .before .before .before .before .before .before .is-sound .ensures .is) ∙ c .before .before .before .before .before .before .before .before .if1 .taken) (call .kept .1 .1 .0) (call .kept .1 .0) (c .before .before .before .before .before .before .before .if2 .taken) (call .ensures)
+returns c = search (shell-second, is-sound)
 
 reverse-graphemes-in-requires-2 : tie.Need-reverse-graphemes-in-requires-2
-reverse-graphemes-in-requires-2 c κs = sound-held _ _ _ (sym (c .before .before .before .before .is-sound .ensures .is) ∙ c .before .before .before .if1 .taken)
+reverse-graphemes-in-requires-2 c κs = search (sound-held, is-sound)
 
 same-length-3 : tie.Need-same-length-3
 same-length-3 c = search needs
@@ -30,7 +30,7 @@ same-length-4 : tie.Need-same-length-4
 same-length-4 c = search needs
 
 returns-2 : tie.Need-returns-2
-returns-2 c = let call = c .before .before .before .before .reverse-graphemes-in2 in shell-first (sym (c .before .before .before .before .before .before .before .before .before .is-sound .ensures .is) ∙ c .before .before .before .before .before .before .before .before .if1 .taken) (call .kept .1 .0) (call .kept .1 .1 .0) (c .before .before .before .before .before .before .before .if2 .left) (call .ensures)
+returns-2 c = search (shell-first, is-sound)
 
 refusal-requires : tie.Need-refusal-requires
 refusal-requires c κs = search needs
@@ -42,7 +42,7 @@ same-length-6 : tie.Need-same-length-6
 same-length-6 c = search needs
 
 returns-3 : tie.Need-returns-3
-returns-3 c = shell-unsound (sym (c .before .before .is-sound .ensures .is) ∙ c .before .if1 .left) (c .refusal .ensures)
+returns-3 c = search (shell-unsound, is-unsound)
 
 pub reverse-graphemes-spec : {M : Type 1} → statement M
 reverse-graphemes-spec =

@@ -11,25 +11,22 @@ refusal-requires : tie.Need-refusal-requires
 refusal-requires c κs = search needs
 
 returns : tie.Need-returns
-returns c = in-not-whole (c .before .before .before .before .before .pre) (c .before .before .not-whole .ensures) (c .before .if1 .taken) (graphemes-refused _ _ _) (c .refusal .ensures)
+returns c = search (in-not-whole, graphemes-refused)
 
 refusal-requires-2 : tie.Need-refusal-requires-2
 refusal-requires-2 c κs = search needs
 
 returns-2 : tie.Need-returns-2
-returns-2 c = in-graphemes-bad (whole-input (c .before .before .before .before .before .before .pre) (c .before .before .before .not-whole .ensures) (c .before .before .if1 .left)) _ _ (c .before .if2 .taken) (c .refusal2 .ensures)
+returns-2 c = in-graphemes-bad (search whole-input) _ _ (search needs) (search needs)
 
 read-level-requires : tie.Need-read-level-requires
 read-level-requires c κs = search needs
 
 merge-each-requires : tie.Need-merge-each-requires
-merge-each-requires c κs = whole-input (c .before .before .before .before .before .before .before .before .before .pre) (c .before .before .before .before .before .before .not-whole .ensures) (c .before .before .before .before .before .if1 .left)
+merge-each-requires c κs = search whole-input
 
 turn-graphemes-requires : tie.Need-turn-graphemes-requires
-turn-graphemes-requires c κs =
-    let each = c .before .before .before .before .before .before .merge-each in
-    let w = whole-input (c .before .before .before .before .before .before .before .before .before .before .before .before .before .before .before .before .pre) (c .before .before .before .before .before .before .before .before .before .before .before .before .before .not-whole .ensures) (c .before .before .before .before .before .before .before .before .before .before .before .before .if1 .left) in
-    whole-limits w (each .ensures .1) (each .ensures .0 .held) (each .kept .1 .0) (each .kept .1 .1 .0)
+turn-graphemes-requires c κs = search (whole-limits, whole-input)
 
 accepted-requires : tie.Need-accepted-requires
 accepted-requires c κs = search needs
@@ -48,7 +45,7 @@ returns-3 c =
     in-graphemes-merged w _ _ (c .before .before .before .before .before .before .before .before .before .before .before .before .before .before .before .before .before .if2 .left) (c .before .before .before .before .before .before .before .before .before .before .before .before .before .before .before .before .read-level .ensures) (c .before .before .before .before .before .before .before .before .before .before .before .before .before .before .before .if3 .taken) (each .ensures .0) (each .ensures .1) (each .kept .1 .0) (each .kept .1 .1 .0) (turn .ensures) (turn .kept .1 .0) (turn .kept .1 .1 .0) (c .accepted .ensures)
 
 turn-graphemes-requires-2 : tie.Need-turn-graphemes-requires-2
-turn-graphemes-requires-2 c κs = whole-input (c .before .before .before .before .before .before .before .before .before .pre) (c .before .before .before .before .before .before .not-whole .ensures) (c .before .before .before .before .before .if1 .left)
+turn-graphemes-requires-2 c κs = search whole-input
 
 accepted-requires-2 : tie.Need-accepted-requires-2
 accepted-requires-2 c κs = search needs
