@@ -41,14 +41,14 @@ module _ {p : Info → Info → Bool} {phase : Phase} {n : ℕ} where
         let order : i ≤ e = omega (arith, g .after) in
         let t = turns-rearrange (v .whole) order (g .inside) turns in
         record {
-      whole = run-lengths lr lo (v .whole);
-      groups = regrouping-more (v .groups) (omega (arith, g .after)) (omega (arith, g .inside, v .first)) (g .is) (t .is);
-      first = v .first;
-      run-behind = t .run-behind ∙ v .run-behind;
-      other-behind = t .other-behind ∙ v .other-behind;
-      run-len = lr ∙ v .run-len;
-      other-len = lo ∙ v .other-len;
-    }
+          whole = run-lengths lr lo (v .whole);
+          groups = regrouping-more (v .groups) (omega (arith, g .after)) (omega (arith, g .inside, v .first)) (g .is) (t .is);
+          first = v .first;
+          run-behind = t .run-behind ∙ v .run-behind;
+          other-behind = t .other-behind ∙ v .other-behind;
+          run-len = lr ∙ v .run-len;
+          other-len = lo ∙ v .other-len;
+        }
 
     pub groups-done : n ≤ i → Turns phase 0 n run other run′ other′ → Rearranges (λ l. regrouped (sizes p (infos l)) l) phase n run₀ other₀ run′ other′
     groups-done o turns = let t = turns-rearrange (v .whole) zero-le (le-refl n) turns in record {

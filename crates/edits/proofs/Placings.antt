@@ -129,11 +129,13 @@ module _ {i : InputPlace} {b : Buffer} {f s : List ℕ} {v : Verdict} where
       place-behind k w = record { is = λ xa ya xo yo. decided-refused h (record { law = λ run other l. place-beyond i xa ya xo yo (l .held) p k }) w }
 
       pub place-ahead : i .0 < b .len .0 → Leaves b true Done v → Places i b f s v
-      place-ahead k w = record { is = λ xa ya xo yo. decided-does h (record {
-        near = near-same b;
-        none = λ c. absurd (false≢true (sym c));
-        law = λ run other run′ other′ l lr lo act. rw (act .run-is) (place-done i xa ya xo yo (l .held) p k lo (act .other-is));
-      }) (λ c. let u = sound-held b f s h in record { in-first = placed-room (held-turned b f s u) p (i .0) k; in-second = placed-room u p (i .0) k }) w }
+      place-ahead k w = record {
+        is = λ xa ya xo yo. decided-does h (record {
+          near = near-same b;
+          none = λ c. absurd (false≢true (sym c));
+          law = λ run other run′ other′ l lr lo act. rw (act .run-is) (place-done i xa ya xo yo (l .held) p k lo (act .other-is));
+        }) (λ c. let u = sound-held b f s h in record { in-first = placed-room (held-turned b f s u) p (i .0) k; in-second = placed-room u p (i .0) k }) w;
+      }
 
   pub place-asked : Places i b f s v → v .acts ≡ true → Placeable (i .0) f s
   place-asked w t = w .is 0 0 0 0 .asked t

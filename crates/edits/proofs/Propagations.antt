@@ -122,19 +122,19 @@ module _ {wants n : ℕ} {run : List ℕ} where
         high = inside;
         behind = (ap (drop n) eg ∙ edit-drop-behind (withMask (settled wants (joinedLow (slice s e (map maskOf (infos (glyphs run′))))))) s e n (glyphs run′) group-order inside) ∙ v .behind;
         is = λ p other k.
-          let L : List (Glyph ℕ) = seenRun p n run′ other in
-          let L′ : List (Glyph ℕ) = seenRun p n run″ other in
-          let m : ℕ = settled wants (joined (slice s e (infos L))) in
-          let first : s < e = after in
-          let on : s + (e - s) ≡ e = omega arith in
-          let edited : glyphs run″ ≡ edit s e (withMask m) (glyphs run′) = eg ∙ ap (λ (x : ℕ). edit s e (withMask x) (glyphs run′)) (group-mask p other k) in
-          let seen : L′ ≡ edit s e (withMask m) L =
-          ap (take n) (shown-edit (withMask m) (mask-apart m) s e p run′ run″ other group-order k edited) ∙ edit-take (withMask m) s e n (shown p run′ other) group-order inside in
-          let later : sizes sameCluster (drop e (infos L′)) ≡ sizes sameCluster (drop e (infos L)) =
-          clusters-same e (infos L′) (infos L) (ap (λ (l : List (Glyph ℕ)). map (λ i. i .cluster) (infos l)) seen ∙ words-edit (λ i. i .cluster) (withMask m) (mask-cluster m) s e L group-order) in
-          ap₂ (λ (ns : List ℕ) (l : List (Glyph ℕ)). propagated wants ns e l) later seen
-          ∙ (ap (λ (x : ℕ). propagated wants (sizes sameCluster (drop e (infos L))) x (edit s x (withMask (settled wants (joined (slice s x (infos L))))) L)) (sym on)
-          ∙ (sym (ap (λ (ns : List ℕ). propagated wants ns s L) (group-at p other k .is) ∙ one-more wants (e - s) (sizes sameCluster (drop e (infos L))) s L) ∙ v .is p other k));
+            let L : List (Glyph ℕ) = seenRun p n run′ other in
+            let L′ : List (Glyph ℕ) = seenRun p n run″ other in
+            let m : ℕ = settled wants (joined (slice s e (infos L))) in
+            let first : s < e = after in
+            let on : s + (e - s) ≡ e = omega arith in
+            let edited : glyphs run″ ≡ edit s e (withMask m) (glyphs run′) = eg ∙ ap (λ (x : ℕ). edit s e (withMask x) (glyphs run′)) (group-mask p other k) in
+            let seen : L′ ≡ edit s e (withMask m) L =
+            ap (take n) (shown-edit (withMask m) (mask-apart m) s e p run′ run″ other group-order k edited) ∙ edit-take (withMask m) s e n (shown p run′ other) group-order inside in
+            let later : sizes sameCluster (drop e (infos L′)) ≡ sizes sameCluster (drop e (infos L)) =
+            clusters-same e (infos L′) (infos L) (ap (λ (l : List (Glyph ℕ)). map (λ i. i .cluster) (infos l)) seen ∙ words-edit (λ i. i .cluster) (withMask m) (mask-cluster m) s e L group-order) in
+            ap₂ (λ (ns : List ℕ) (l : List (Glyph ℕ)). propagated wants ns e l) later seen
+            ∙ (ap (λ (x : ℕ). propagated wants (sizes sameCluster (drop e (infos L))) x (edit s x (withMask (settled wants (joined (slice s x (infos L))))) L)) (sym on)
+            ∙ (sym (ap (λ (ns : List ℕ). propagated wants ns s L) (group-at p other k .is) ∙ one-more wants (e - s) (sizes sameCluster (drop e (infos L))) s L) ∙ v .is p other k));
       }
 
     pub spread-done : n ≤ s → Propagates wants n run run′
@@ -144,8 +144,8 @@ module _ {wants n : ℕ} {run : List ℕ} where
         record {
           behind = v .behind;
           is = λ p other k.
-            let none : sizes sameCluster (drop s (infos (seenRun p n run′ other))) ≡ [] = rw end (no-group p run′ other k (v .fits) sameCluster) in
-            sym (ap (λ (ns : List ℕ). propagated wants ns s (seenRun p n run′ other)) none ∙ no-more wants s (seenRun p n run′ other)) ∙ v .is p other k;
+              let none : sizes sameCluster (drop s (infos (seenRun p n run′ other))) ≡ [] = rw end (no-group p run′ other k (v .fits) sameCluster) in
+              sym (ap (λ (ns : List ℕ). propagated wants ns s (seenRun p n run′ other)) none ∙ no-more wants s (seenRun p n run′ other)) ∙ v .is p other k;
         }
 
 pub propagates-run : {wants n : ℕ} {run other run′ : List ℕ} → Propagates wants n run run′ → PropagatesRun wants n run other run′ other
@@ -162,8 +162,8 @@ unfolding propagateFlags refuse_when_else_
 on-run-propagate b = record {
   whole = record { refuses = λ capacity a h. rw h };
   done = λ run other run′ other′ w lr lo act.
-    let d = act .run-does in
-    rw (act .other-is) (in-acts (whole-acts w lr refl (d .behind) refl (λ l. propagated (b .wants) (sizes sameCluster (infos l)) 0 l) (d .is (b .phase) other (w .clean))) (propagate-accepts w) refl);
+      let d = act .run-does in
+      rw (act .other-is) (in-acts (whole-acts w lr refl (d .behind) refl (λ l. propagated (b .wants) (sizes sameCluster (infos l)) 0 l) (d .is (b .phase) other (w .clean))) (propagate-accepts w) refl);
 }
 
 pub propagate-decided : {b : Buffer} {f s : List ℕ} {v : Verdict} → TakesWhole b f s v → Decided (λ capacity a. propagateFlags a) b f s (verdicts.settled b v) (v .acts) (RunOf (b .phase) (b .len .0) f s) (PropagatesRun (b .wants) (b .len .0))

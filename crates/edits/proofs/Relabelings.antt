@@ -121,11 +121,13 @@ module _ {mask : ℕ} {b : Buffer} {f s : List ℕ} {v : Verdict} where
       masks-none m w = record { is = λ value start stop. decided-accepted h (accepts Done refl (near-same b) (λ run other l. (masks-nothing value mask start stop (accountOf b run other) (not-not-whole (lying-whole et k l)) m, l .held))) w }
 
       pub masks-ahead : {x : Buffer} {l : Limits} → (mask ≡ 0 → ⊥) → l ≡ costs (b .len .0) (b .limits) → x ≡ withLimitsOf l b → Leaves x true Done v → SetsMasks mask b f s v
-      masks-ahead m el ex w = record { is = λ value start stop. decided-does h (record {
-        near = near-limits b _;
-        none = λ c. absurd (false≢true (sym c));
-        law = λ run other run′ other′ l lr lo act. rw (act .other-is) (masks-done value mask start stop (lying-whole et k l) m lr (act .run-is));
-      }) (λ c. whole-run (sound-whole h et k)) (leaves-as (ex ∙ ap (λ (y : Limits). withLimitsOf y b) el) w) }
+      masks-ahead m el ex w = record {
+        is = λ value start stop. decided-does h (record {
+          near = near-limits b _;
+          none = λ c. absurd (false≢true (sym c));
+          law = λ run other run′ other′ l lr lo act. rw (act .other-is) (masks-done value mask start stop (lying-whole et k l) m lr (act .run-is));
+        }) (λ c. whole-run (sound-whole h et k)) (leaves-as (ex ∙ ap (λ (y : Limits). withLimitsOf y b) el) w);
+      }
 
   module _ (w : SetsMasks mask b f s v) (t : v .acts ≡ true) where
     pub masks-first : b .len .0 ≤ length (glyphs f)
@@ -210,10 +212,10 @@ unfolding resetClusters refuse_when_else_
 on-run-reset b = record {
   whole = record { refuses = λ capacity a h. rw h };
   done = λ run other run′ other′ w lr lo act.
-    let fits = whole-run w .fits in
-    rw (act .other-is) (in-acts
-    (whole-acts w lr refl (numbered-behind (b .len .0) run run′ other fits (act .run-is)) refl (numbered 0) (shown-numbered (b .len .0) run run′ other fits (act .run-is) (b .phase) (w .clean)))
-    (reset-all (accountOf b run other) (not-not-whole w)) refl);
+      let fits = whole-run w .fits in
+      rw (act .other-is) (in-acts
+      (whole-acts w lr refl (numbered-behind (b .len .0) run run′ other fits (act .run-is)) refl (numbered 0) (shown-numbered (b .len .0) run run′ other fits (act .run-is) (b .phase) (w .clean)))
+      (reset-all (accountOf b run other) (not-not-whole w)) refl);
 }
 
 pub reset-decided : {b : Buffer} {f s : List ℕ} {v : Verdict} → TakesWhole b f s v → Decided (λ capacity a. resetClusters a) b f s (settled b v) (v .acts) (RunOf (b .phase) (b .len .0) f s) (RunBecomes (λ l. numbered 0 (take (b .len .0) l) ++ drop (b .len .0) l))

@@ -107,9 +107,9 @@ module _ (b : Buffer) where
   on-run-reverse = record {
     whole = record { refuses = λ capacity a h. rw h };
     done = λ run other run′ other′ w lr lo act.
-      in-acts (rearranged w lr lo (turns-rearrange (whole-run w) zero-le (le-refl (b .len .0)) act))
-      (run-accepted (accountOf b run other) (not-not-whole w)
-      ∙ ap (λ (l : List (Glyph ℕ)). accepted (withRest l (accountOf b run other))) (sym (turned-all (b .len .0) ((accountOf b run other) .rest) (whole-rest w)))) refl;
+        in-acts (rearranged w lr lo (turns-rearrange (whole-run w) zero-le (le-refl (b .len .0)) act))
+        (run-accepted (accountOf b run other) (not-not-whole w)
+        ∙ ap (λ (l : List (Glyph ℕ)). accepted (withRest l (accountOf b run other))) (sym (turned-all (b .len .0) ((accountOf b run other) .rest) (whole-rest w)))) refl;
   }
 
   on-run-clusters : OnRun (λ capacity a. reverseClusters a) b (Rearranges (λ l. regrouped (sizes sameCluster (infos l)) l) (b .phase) (b .len .0))
@@ -150,13 +150,15 @@ module _ {start stop : InputPlace} {b : Buffer} {f s : List ℕ} {v : Verdict} w
       range-ahead p w =
           let u = sound-whole h et k in
           let m = in-mergeful (u .held) start stop (u .clean) ex p in
-          record { is = decided-does h (record {
-            near = near-same b;
-            none = λ c. absurd (false≢true (sym c));
-            law = λ run other run′ other′ l lr lo act.
-              let q = lying-whole et k l in
-              in-acts (rearranged q lr lo (turns-rearrange (whole-run q) (m .order) (m .end) act)) (range-accepted (accountOf b run other) start stop (not-not-whole q) (outside-is start stop q ex p)) refl;
-          }) (λ c. (m .order, run-shorter (whole-run u) (m .end))) w }
+          record {
+            is = decided-does h (record {
+              near = near-same b;
+              none = λ c. absurd (false≢true (sym c));
+              law = λ run other run′ other′ l lr lo act.
+                  let q = lying-whole et k l in
+                  in-acts (rearranged q lr lo (turns-rearrange (whole-run q) (m .order) (m .end) act)) (range-accepted (accountOf b run other) start stop (not-not-whole q) (outside-is start stop q ex p)) refl;
+            }) (λ c. (m .order, run-shorter (whole-run u) (m .end))) w;
+          }
 
   module _ (w : ReversesRange start stop b f s v) (t : v .acts ≡ true) where
     pub range-order : start .0 ≤ stop .0
