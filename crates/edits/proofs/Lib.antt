@@ -36,6 +36,7 @@ pub mod Relabelings
 pub mod Renaming
 pub mod Replacements
 pub mod ReverseCalls
+pub mod SetLengths
 pub mod SiftedRuns
 pub mod Siftings
 pub mod SortCalls

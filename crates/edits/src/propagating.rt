@@ -54,15 +54,23 @@ fn propagate_each(run: &mut [u32], table: &[u32], wants: u32, n: usize)
     }
 }
 
+// The same with the table.
+fn propagate_run(run: &mut [u32], wants: u32, n: usize)
+    requires { ⌜ n ≤ length (glyphs (now run)) ⌝ }
+    ensures { λ r. ⌜ Propagates wants n (now (run .entry)) (now (run .exit)) ⌝ }
+{
+    propagate_each(run, &flag_table::FLAG_TABLE, wants, n);
+}
+
 // The same, wherever the run lies.
 fn propagate_by(first: &mut [u32], second: &mut [u32], swapped: bool, wants: u32, n: usize)
     requires { ⌜ (n ≤ length (glyphs (now first))) × (n ≤ length (glyphs (now second))) ⌝ }
     ensures { λ r. ⌜ Sided swapped (PropagatesRun wants n) (now (first .entry)) (now (second .entry)) (now (first .exit)) (now (second .exit)) ⌝ }
 {
     if swapped {
-        propagate_each(second, &flag_table::FLAG_TABLE, wants, n);
+        propagate_run(second, wants, n);
     } else {
-        propagate_each(first, &flag_table::FLAG_TABLE, wants, n);
+        propagate_run(first, wants, n);
     }
 }
 

@@ -1,5 +1,5 @@
 use Rattle.records.proofs.Tests.{tested}
-use Rattle.edits.proofs.Lengths.{lengthened-short, lengthened-plain, lengthened-positions}
+use Rattle.edits.proofs.SetLengths.{lengthened-short, lengthened-plain, lengthened-positions}
 use Rattle.edits.proofs.WholeCalls.{below, places-fit}
 use borrow.Author.Needs.{needs}
 use Rattle.edits.proofs.filling.fill_up.Statement.{statement}

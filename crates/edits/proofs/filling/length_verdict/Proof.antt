@@ -1,5 +1,5 @@
 use Rattle.lists.proofs.Decisions.{is-sound, is-unsound}
-use Rattle.edits.proofs.Lengths.{length-unsound, length-not-whole, length-ahead}
+use Rattle.edits.proofs.SetLengths.{length-unsound, length-not-whole, length-ahead}
 use borrow.Author.Needs.{needs}
 use Rattle.edits.proofs.filling.length_verdict.Statement.{statement}
 use Rattle.edits.proofs.filling.length_verdict.Tie as tie

@@ -1,6 +1,6 @@
 use mathlib.Core.Logic.{⊎-elim}
 use Rattle.lists.proofs.Decisions.{end-acted, end-still, kept-length}
-use Rattle.edits.proofs.Lengths.{length-asked}
+use Rattle.edits.proofs.SetLengths.{length-asked}
 use borrow.Author.Needs.{needs}
 use Rattle.edits.proofs.filling.set_length.Statement.{statement}
 use Rattle.edits.proofs.filling.set_length.Tie as tie
