@@ -9,8 +9,4 @@ returns-2 : tie.Need-returns-2
 returns-2 c = search everywhere-not
 
 pub is-everywhere-spec : {M : Type 1} → statement M
-is-everywhere-spec =
-    tie.close
-    (tie.spec
-    returns
-    returns-2)
+is-everywhere-spec = tie.close (tie.spec returns returns-2)

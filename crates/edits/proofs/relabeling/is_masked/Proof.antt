@@ -3,9 +3,6 @@ use borrow.Author.Needs.{needs}
 use Rattle.edits.proofs.relabeling.is_masked.Statement.{statement}
 use Rattle.edits.proofs.relabeling.is_masked.Tie as tie
 
-is-everywhere-requires : tie.Need-is-everywhere-requires
-is-everywhere-requires c κs = search needs
-
 returns : tie.Need-returns
 returns c = search masked-everywhere
 
@@ -16,10 +13,4 @@ returns-3 : tie.Need-returns-3
 returns-3 c = search masked-before
 
 pub is-masked-spec : {M : Type 1} → statement M
-is-masked-spec =
-    tie.close
-    (tie.spec
-    is-everywhere-requires
-    returns
-    returns-2
-    returns-3)
+is-masked-spec = tie.close (tie.spec (search needs) returns returns-2 returns-3)

@@ -28,22 +28,8 @@ loop-less c = omega arith
 loop-again : tie.Need-loop-again Inv-loop μ-loop
 loop-again c = search editing-more
 
-same-length : tie.Need-same-length Inv-loop μ-loop
-same-length c = search needs
-
 returns : tie.Need-returns Inv-loop μ-loop
 returns c = search editing-done
 
 pub mask-glyphs-spec : {M : Type 1} → statement M
-mask-glyphs-spec =
-    tie.close
-    (tie.spec
-    Inv-loop
-    μ-loop
-    loop-holds
-    mask-glyph-requires
-    add-i
-    loop-less
-    loop-again
-    same-length
-    returns)
+mask-glyphs-spec = tie.close (tie.spec Inv-loop μ-loop loop-holds mask-glyph-requires add-i loop-less loop-again (search needs) returns)

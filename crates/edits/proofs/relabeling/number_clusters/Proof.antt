@@ -30,23 +30,8 @@ loop-less c = omega arith
 loop-again : tie.Need-loop-again Inv-loop μ-loop
 loop-again c = search numbering-more
 
-same-length : tie.Need-same-length Inv-loop μ-loop
-same-length c = search needs
-
 returns : tie.Need-returns Inv-loop μ-loop
 returns c = search numbering-done
 
 pub number-clusters-spec : {M : Type 1} → statement M
-number-clusters-spec =
-    tie.close
-    (tie.spec
-    Inv-loop
-    μ-loop
-    loop-holds
-    cast-reset-cluster
-    reset-cluster-requires
-    add-i
-    loop-less
-    loop-again
-    same-length
-    returns)
+number-clusters-spec = tie.close (tie.spec Inv-loop μ-loop loop-holds cast-reset-cluster reset-cluster-requires add-i loop-less loop-again (search needs) returns)

@@ -6,8 +6,5 @@ use Rattle.edits.proofs.relabeling.replaced_bits.Tie as tie
 sub-result : tie.Need-sub-result
 sub-result c = and-le-r (c .args .mask) (c .args .old)
 
-returns : tie.Need-returns
-returns c = search needs
-
 pub replaced-bits-spec : {M : Type 1} → statement M
-replaced-bits-spec = tie.close (tie.spec sub-result returns)
+replaced-bits-spec = tie.close (tie.spec sub-result (λ c. search needs))

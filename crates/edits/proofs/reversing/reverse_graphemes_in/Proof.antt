@@ -4,38 +4,17 @@ use Rattle.edits.proofs.GraphemeCalls.{graphemes-refused, whole-limits,
 use Rattle.edits.proofs.reversing.reverse_graphemes_in.Statement.{statement}
 use Rattle.edits.proofs.reversing.reverse_graphemes_in.Tie as tie
 
-not-whole-requires : tie.Need-not-whole-requires
-not-whole-requires c κs = search needs
-
-refusal-requires : tie.Need-refusal-requires
-refusal-requires c κs = search needs
-
 returns : tie.Need-returns
 returns c = search (in-not-whole, graphemes-refused)
 
-refusal-requires-2 : tie.Need-refusal-requires-2
-refusal-requires-2 c κs = search needs
-
 returns-2 : tie.Need-returns-2
 returns-2 c = in-graphemes-bad (search whole-input) _ _ (search needs) (search needs)
-
-read-level-requires : tie.Need-read-level-requires
-read-level-requires c κs = search needs
 
 merge-each-requires : tie.Need-merge-each-requires
 merge-each-requires c κs = search whole-input
 
 turn-graphemes-requires : tie.Need-turn-graphemes-requires
 turn-graphemes-requires c κs = search (whole-limits, whole-input)
-
-accepted-requires : tie.Need-accepted-requires
-accepted-requires c κs = search needs
-
-same-length : tie.Need-same-length
-same-length c = search needs
-
-same-length-2 : tie.Need-same-length-2
-same-length-2 c = search needs
 
 returns-3 : tie.Need-returns-3
 returns-3 c =
@@ -47,15 +26,6 @@ returns-3 c =
 turn-graphemes-requires-2 : tie.Need-turn-graphemes-requires-2
 turn-graphemes-requires-2 c κs = search whole-input
 
-accepted-requires-2 : tie.Need-accepted-requires-2
-accepted-requires-2 c κs = search needs
-
-same-length-3 : tie.Need-same-length-3
-same-length-3 c = search needs
-
-same-length-4 : tie.Need-same-length-4
-same-length-4 c = search needs
-
 returns-4 : tie.Need-returns-4
 returns-4 c =
     let turn = c .before .before .before .before .before .turn-graphemes2 in
@@ -63,23 +33,4 @@ returns-4 c =
     in-graphemes-plain w _ _ (c .before .before .before .before .before .before .before .before .before .before .if2 .left) (c .before .before .before .before .before .before .before .before .before .read-level .ensures) (c .before .before .before .before .before .before .before .before .if3 .left) (turn .kept .1 .0) (turn .kept .1 .1 .0) (turn .ensures) (c .accepted2 .ensures)
 
 pub reverse-graphemes-in-spec : {M : Type 1} → statement M
-reverse-graphemes-in-spec =
-    tie.close
-    (tie.spec
-    not-whole-requires
-    refusal-requires
-    returns
-    refusal-requires-2
-    returns-2
-    read-level-requires
-    merge-each-requires
-    turn-graphemes-requires
-    accepted-requires
-    same-length
-    same-length-2
-    returns-3
-    turn-graphemes-requires-2
-    accepted-requires-2
-    same-length-3
-    same-length-4
-    returns-4)
+reverse-graphemes-in-spec = tie.close (tie.spec (search needs) (search needs) returns (search needs) returns-2 (search needs) merge-each-requires turn-graphemes-requires (search needs) (search needs) (search needs) returns-3 turn-graphemes-requires-2 (search needs) (search needs) (search needs) returns-4)
