@@ -1,6 +1,7 @@
 -- A range turned round by exchanges of its two ends, over elements of any type.
 use mathlib.Core.{Path._≡_, Path.refl, Path.ap, Path.sym, Path._∙_, List.List, List.[], List._∷_, List._++_, List.append-assoc, List.reverse, List.reverse-append, List.reverse-cons}
-use Prim.Native.Nat.{ℕ, suc, _+_, _-_, _≤_, _<_}
+use Prim.Native.Nat.{ℕ, suc, _+_, _-_, _*_, _/_, _%_, _≤_, _<_}
+use native.Mathlib.Nat.{div-add-mod', mod-lt}
 use native.Mathlib.Numerals.{add-one}
 use native.Mathlib.Omega.{arith}
 use lib.ListN.{take, drop, length, getD, set, length-append, length-set, take-append-drop}
@@ -96,6 +97,37 @@ pub record Turning {A : Type 0} (l₀ : List A) (s e : ℕ) (l : List A) (i j : 
   pub order : i ≤ j
   pub fits : j ≤ length l
   pub is : turned i j l ≡ turned s e l₀
+
+-- k exchanges are still to make
+pub record Halved (i j k : ℕ) : Type 0 where
+  pub most : i + k + k ≤ j
+  pub least : j ≤ i + k + k + 1
+
+pub halved-none : {s e : ℕ} → s ≤ e → Halved s e ((e - s) / 2)
+halved-none {s} {e} o =
+    let d : (e - s) / 2 * 2 + (e - s) % 2 ≡ e - s = div-add-mod' (e - s) 2 in
+    let m : (e - s) % 2 < 2 = mod-lt (e - s) (omega arith) in
+    record { most = omega arith; least = omega arith }
+
+module _ {i j k : ℕ} (v : Halved i j k) where
+  pub halved-room : 0 < k → i + 1 < j
+  halved-room o = omega (arith, v .most)
+
+  pub halved-more : 0 < k → Halved (i + 1) (j - 1) (k - 1)
+  halved-more o = record { most = omega (arith, v .most); least = omega (arith, v .least) }
+
+  pub halved-done : k ≤ 0 → j ≤ i + 1
+  halved-done o = omega (arith, v .least)
+
+  pub halved-last : 0 < k → 1 ≤ j
+  halved-last o = omega (arith, v .most)
+
+module _ {A : Type 0} {l₀ l : List A} {s e i j k : ℕ} (v : Turning l₀ s e l i j) (w : Halved i j k) (o : 0 < k) where
+  pub turning-first : i < length l
+  turning-first = omega (arith, v .fits, w .most)
+
+  pub turning-last : j - 1 < length l
+  turning-last = omega (arith, v .fits, w .most)
 
 module _ {A : Type 0} where
   pub turning-none : {l : List A} {s e : ℕ} → s ≤ e → e ≤ length l → Turning l s e l s e

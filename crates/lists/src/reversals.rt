@@ -1,4 +1,5 @@
 // Ranges of glyphs, and of positions, the other way round: the two ends are exchanged, towards the middle.
+// The exchanges are counted: LLVM then has one number for the end of the loop.
 ghost use mathlib.Core.Path.{_≡_};
 ghost use Prim.Native.Nat.{_<_, _≤_};
 ghost use lib.ListN.{length};
@@ -22,10 +23,12 @@ pub fn reverse_glyphs(ws: &mut [u32], s: usize, e: usize)
 {
     let mut i = s;
     let mut j = e;
-    while i + 1 < j {
+    let mut k = (e - s) / 2;
+    while 0 < k {
         j -= 1;
         swap_glyphs(ws, i, j);
         i += 1;
+        k -= 1;
     }
 }
 
@@ -45,9 +48,11 @@ pub fn reverse_positions(ws: &mut [u32], s: usize, e: usize)
 {
     let mut i = s;
     let mut j = e;
-    while i + 1 < j {
+    let mut k = (e - s) / 2;
+    while 0 < k {
         j -= 1;
         swap_positions(ws, i, j);
         i += 1;
+        k -= 1;
     }
 }
