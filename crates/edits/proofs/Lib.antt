@@ -31,10 +31,12 @@ pub mod Pairs
 pub mod Places
 pub mod Placings
 pub mod Propagations
+pub mod PutLaws
 pub mod Regroups
 pub mod Relabelings
 pub mod Renaming
 pub mod Replacements
+pub mod ReplaceCalls
 pub mod ReverseCalls
 pub mod SetLengths
 pub mod SiftedRuns
@@ -44,4 +46,5 @@ pub mod Sorts
 pub mod TurnParts
 pub mod WholeCalls
 pub mod WholeInputs
+pub mod WriteCalls
 pub mod Writings

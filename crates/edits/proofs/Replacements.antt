@@ -125,20 +125,20 @@ module _ {b : Buffer} {run other : List ℕ} (v : SyncOutput b run other) (m n :
 
 -- ---- replace_glyphs
 module _ (capacity m n : ℕ) (gs : List ℕ) (a : Account ℕ) where
-  replace-none : hasOutput a ≡ false → replaceGlyphs capacity m n gs a ≡ refused WrongPhase
+  pub replace-none : hasOutput a ≡ false → replaceGlyphs capacity m n gs a ≡ refused WrongPhase
   unfolding replaceGlyphs refuse_when_else_
   replace-none h = rw h
 
   module _ (h : hasOutput a ≡ true) where
-    replace-outside : ltb (length (a .rest)) (max m 1) ≡ true → replaceGlyphs capacity m n gs a ≡ refused OutOfRange
+    pub replace-outside : ltb (length (a .rest)) (max m 1) ≡ true → replaceGlyphs capacity m n gs a ≡ refused OutOfRange
     unfolding replaceGlyphs refuse_when_else_
     replace-outside k = rw (h, k)
 
-    replace-short : ltb (length (a .rest)) (max m 1) ≡ false → ltb (length gs) n ≡ true → replaceGlyphs capacity m n gs a ≡ refused BadOperand
+    pub replace-short : ltb (length (a .rest)) (max m 1) ≡ false → ltb (length gs) n ≡ true → replaceGlyphs capacity m n gs a ≡ refused BadOperand
     unfolding replaceGlyphs refuse_when_else_
     replace-short k j = rw (h, k, j)
 
-    replace-writes : ltb (length (a .rest)) (max m 1) ≡ false → ltb (length gs) n ≡ false → replaceGlyphs capacity m n gs a ≡ writesReplaced m n gs capacity a
+    pub replace-writes : ltb (length (a .rest)) (max m 1) ≡ false → ltb (length gs) n ≡ false → replaceGlyphs capacity m n gs a ≡ writesReplaced m n gs capacity a
     unfolding replaceGlyphs refuse_when_else_ writesReplaced replaced replacing sized limiting withLimits
     replace-writes k j = rw (h, k, j)
 

@@ -13,6 +13,7 @@ pub mod Holding
 pub mod Plans
 pub mod Acts
 pub mod MergeActs
+pub mod Puts
 pub mod Wholes
 pub mod Fills
 pub mod Relabels

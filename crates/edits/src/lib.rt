@@ -18,6 +18,7 @@ pub mod merges;
 pub mod merging;
 mod numbers;
 pub mod propagating;
+mod puts;
 pub mod relabeling;
 pub mod replacing;
 pub mod reversing;

@@ -1,4 +1,5 @@
 // Replacing: calls 0D and 0E.
+ghost use mathlib.Core.Bool.{false};
 ghost use mathlib.Core.List.{[], _∷_};
 ghost use Prim.Native.Nat.{_+_, _≤_, _<_};
 ghost use lib.ListN.{length};
@@ -8,14 +9,18 @@ ghost use Rattle.lists.specs.Moving.{SyncOutput};
 ghost use Rattle.lists.specs.Contract.{Meets, MeetsIn};
 ghost use Rattle.edits.specs.Writing.{replaceGlyphs};
 ghost use Rattle.edits.specs.Acts.{Acts, Writable, given};
+ghost use Rattle.edits.specs.Puts.{OutputDecided};
 ghost use Rattle.edits.specs.Replaces.{replaced, writesReplaced};
 use super::merges;
 use super::numbers::count;
+use super::puts;
 use super::writing;
 use lists::Buffer;
 use lists::Reply;
 use lists::Room;
+use lists::Verdict;
 use lists::state;
+use lists::verdicts;
 use records::Refusal;
 
 // The inputs merge, then copies of the first go behind the output in their place.
@@ -141,10 +146,41 @@ pub fn replace_glyphs_from_bytes(
     replace_by(b, first, second, num_in, num_out, &[], bytes)
 }
 
+// One glyph for one merges nothing, and does not overtake the cursor.
+fn one_verdict(b: Buffer, first: &[u32], second: &[u32], number: u32) -> Verdict
+    ensures { λ v. ⌜ OutputDecided (λ capacity a. replaceGlyphs capacity 1 1 (number ∷ []) a) false number false b (now (first .entry)) (now (second .entry)) v ⌝ }
+{
+    if state::is_sound(b, first, second) {
+        let phase = b.phase;
+        if state::have_output(phase) {
+            if b.len.0 <= b.idx.0 {
+                return verdicts::refused(b, Refusal::OutOfRange);
+            }
+            return verdicts::writes(b, records::glyphs::capacity(first), 1, 1, true);
+        }
+        return verdicts::refused(b, Refusal::WrongPhase);
+    }
+    verdicts::refused(b, Refusal::Contradiction)
+}
+
 // 0D
 pub fn replace_glyph(b: Buffer, first: &mut [u32], second: &mut [u32], number: u32) -> Reply
     ensures { λ r. ⌜ Meets (λ capacity a. replaceGlyphs capacity 1 1 (number ∷ []) a) b (now (first .entry)) (now (second .entry)) r (now (first .exit)) (now (second .exit)) ⌝ }
 {
-    let one = [number];
-    replace_glyphs(b, first, second, 1, 1, &one)
+    let v = one_verdict(b, first, second, number);
+    if v.acts {
+        puts::output_by(
+            first,
+            second,
+            b.swapped,
+            b.have_separate_output,
+            false,
+            false,
+            b.idx.0,
+            b.len.0,
+            b.out_len.0,
+            number,
+        );
+    }
+    verdicts::settled(b, v)
 }

@@ -1,46 +1,22 @@
-// Writing: calls 0A to 0E.
+// Writing: calls 0A to 0C. Each decides, acts and settles.
 ghost use mathlib.Core.Path.{_≡_};
-ghost use Prim.Native.Nat.{ℕ, _+_, _-_, _≤_};
-ghost use mathlib.Core.Bool.{cond};
-ghost use mathlib.Core.List.{List};
+ghost use mathlib.Core.Bool.{cond, true, false};
+ghost use Prim.Native.Nat.{_+_, _-_, _≤_, _<_, _^_};
 ghost use lib.ListN.{length, take, getD};
 ghost use Rattle.records.specs.View.{glyphs, seen, zeroGlyph};
-ghost use Rattle.records.specs.Ranges.{copies};
-ghost use Rattle.lists.specs.Copied.{copied};
-ghost use Rattle.lists.specs.Account.{sized, outLen};
-ghost use Rattle.lists.specs.State.{Held};
-ghost use Rattle.lists.specs.Moving.{SyncOutput};
-ghost use Rattle.lists.specs.Contract.{Meets, MeetsIn};
-ghost use Rattle.edits.specs.Writing.{writing, copyGlyph, outputGlyph, outputInfo};
-ghost use Rattle.edits.specs.Acts.{Acts, Roomy, Writable, Parted, replacing, writesOne, given};
-use super::numbers::number_at;
+ghost use Rattle.lists.specs.Contract.{Meets};
+ghost use Rattle.lists.specs.Verdicts.{Decided, settled};
+ghost use Rattle.edits.specs.Writing.{copyGlyph, outputGlyph, outputInfo};
+ghost use Rattle.edits.specs.Acts.{Acts, Roomy, Writable, Parted, replacing, given};
+ghost use Rattle.edits.specs.Puts.{overtakes, lying, Writes, Puttable, InfoDecided, OutputDecided, sizeAlone};
+use super::puts;
 use lists::Buffer;
 use lists::Reply;
-use lists::Room;
+use lists::Verdict;
 use lists::state;
+use lists::verdicts;
 use records::Glyph;
 use records::Refusal;
-
-// The same glyph under another number.
-fn numbered(g: Glyph, number: u32) -> Glyph
-    ensures { λ r. ⌜ seen r ≡ record { glyph = number; info = seen g .info } ⌝ }
-{
-    let mut r = g;
-    r.glyph = number;
-    r
-}
-
-// A glyph for each of the first n numbers, from place `at` on, with the other words of g.
-fn put_copies(ws: &mut [u32], at: usize, g: Glyph, numbers: &[u32], bytes: &[u8], n: usize)
-    requires { ⌜ (at + n ≤ length (glyphs (now ws))) × (n ≤ length (given (now numbers) (now bytes))) ⌝ }
-    ensures { λ r. ⌜ glyphs (now (ws .exit)) ≡ copied (glyphs (now (ws .entry))) at (copies (seen g .info) (given (now (numbers .entry)) (now (bytes .entry)))) 0 n ⌝ }
-{
-    let mut i = 0;
-    while i < n {
-        records::glyphs::put(ws, at + i, numbered(g, number_at(numbers, bytes, i)));
-        i += 1;
-    }
-}
 
 // The output moves to the other slice where it would overtake the cursor.
 pub(crate) fn make_room_for(
@@ -80,83 +56,111 @@ pub(crate) fn write_copies(
 {
     let at = b.out_len.0;
     if b.have_separate_output {
-        put_copies(other, at, g, numbers, bytes, num_out);
+        puts::put_copies(other, at, g, numbers, bytes, num_out);
         return state::at_places(b, b.idx.0 + num_in, b.len.0, at + num_out);
     }
-    put_copies(run, at, g, numbers, bytes, num_out);
+    puts::put_copies(run, at, g, numbers, bytes, num_out);
     state::at_places(b, b.idx.0 + num_in, b.len.0, at + num_out)
 }
 
-// A copy of g under a number goes behind the output, after its size.
-fn write_one(b: Buffer, run: &mut [u32], other: &mut [u32], g: Glyph, number: u32) -> Reply
-    requires { ⌜ SyncOutput b (now run) (now other) ⌝ }
-    ensures { λ r. ⌜ MeetsIn (λ capacity a. writesOne (seen g .info) number capacity a) b (now (run .entry)) (now (other .entry)) r (now (run .exit)) (now (other .exit)) ⌝ }
+// Whether num_out glyphs behind the output, in place of num_in of the input, would overtake the cursor.
+fn overtakes(b: Buffer, num_in: usize, num_out: usize) -> bool
+    requires { ⌜ (b .idx .0 + «num_in» < 2 ^ 64) × (b .«out_len» .0 + «num_out» < 2 ^ 64) ⌝ }
+    ensures { λ r. ⌜ r ≡ overtakes b «num_in» «num_out» ⌝ }
 {
-    let size = b.out_len.0 + 1;
-    let room = state::room_for(b.limits, records::glyphs::capacity(run), size);
-    match room {
-        Room::Fits => {
-            let grown = state::with_limits(b, records::counters::grow(b.limits, size));
-            let parted = make_room_for(grown, run, other, 0, 1);
-            let one = [number];
-            state::accepted(write_copies(parted, run, other, g, &one, &[], 0, 1))
-        }
-        Room::GivesUp => state::accepted(state::with_limits(b, records::counters::fail(b.limits))),
-        Room::Over => state::refusal(b, Refusal::OverCapacity),
+    if b.have_separate_output {
+        return false;
     }
+    b.idx.0 + num_in < b.out_len.0 + num_out
 }
 
-fn copy_in(b: Buffer, run: &mut [u32], other: &mut [u32]) -> Reply
-    requires { ⌜ Held b (now run) (now other) ⌝ }
-    ensures { λ r. ⌜ MeetsIn (λ capacity a. copyGlyph capacity a) b (now (run .entry)) (now (other .entry)) r (now (run .exit)) (now (other .exit)) ⌝ }
+// The same verdict, for an output that moves or does not.
+fn lying(v: Verdict, apart: bool) -> Verdict
+    ensures { λ r. ⌜ r ≡ lying apart v ⌝ }
 {
-    let phase = b.phase;
-    if state::have_output(phase) {
-        let idx = b.idx.0;
-        if b.len.0 <= idx {
-            return state::refusal(b, Refusal::OutOfRange);
-        }
-        let g = records::glyphs::get(run, idx);
-        return write_one(b, run, other, g, g.glyph);
+    let mut r = v;
+    r.apart = apart;
+    r
+}
+
+// With output: num_in glyphs are taken and num_out written, if their size is there.
+pub(crate) fn write_verdict(
+    b: Buffer,
+    capacity: usize,
+    num_in: usize,
+    num_out: usize,
+    acts: bool,
+) -> Verdict
+    requires { ⌜ (b .idx .0 + «num_in» < 2 ^ 64) × (b .«out_len» .0 + «num_out» < 2 ^ 64) ⌝ }
+    ensures { λ v. ⌜ Writes capacity b «num_in» «num_out» acts v ⌝ }
+{
+    let v = verdicts::writes(b, capacity, num_in, num_out, acts);
+    if v.acts {
+        return lying(v, overtakes(b, num_in, num_out));
     }
-    state::refusal(b, Refusal::WrongPhase)
+    v
+}
+
+fn copy_verdict(b: Buffer, first: &[u32], second: &[u32]) -> Verdict
+    ensures { λ v. ⌜ OutputDecided (λ capacity a. copyGlyph capacity a) true 0 (v .apart) b (now (first .entry)) (now (second .entry)) v ⌝ }
+{
+    if state::is_sound(b, first, second) {
+        let phase = b.phase;
+        if state::have_output(phase) {
+            if b.len.0 <= b.idx.0 {
+                return verdicts::refused(b, Refusal::OutOfRange);
+            }
+            return write_verdict(b, records::glyphs::capacity(first), 0, 1, true);
+        }
+        return verdicts::refused(b, Refusal::WrongPhase);
+    }
+    verdicts::refused(b, Refusal::Contradiction)
 }
 
 // 0A
 pub fn copy_glyph(b: Buffer, first: &mut [u32], second: &mut [u32]) -> Reply
     ensures { λ r. ⌜ Meets (λ capacity a. copyGlyph capacity a) b (now (first .entry)) (now (second .entry)) r (now (first .exit)) (now (second .exit)) ⌝ }
 {
-    if state::is_sound(b, first, second) {
-        if b.swapped {
-            return copy_in(b, second, first);
-        }
-        return copy_in(b, first, second);
+    let v = copy_verdict(b, first, second);
+    if v.acts {
+        puts::output_by(
+            first,
+            second,
+            b.swapped,
+            b.have_separate_output,
+            v.apart,
+            true,
+            b.idx.0,
+            b.len.0,
+            b.out_len.0,
+            0,
+        );
     }
-    state::refusal(b, Refusal::Contradiction)
+    verdicts::settled(b, v)
 }
 
-fn info_in(b: Buffer, run: &mut [u32], other: &mut [u32], g: Glyph) -> Reply
-    requires { ⌜ Held b (now run) (now other) ⌝ }
-    ensures { λ r. ⌜ MeetsIn (λ capacity a. outputInfo capacity (seen g .glyph) (seen g .info) a) b (now (run .entry)) (now (other .entry)) r (now (run .exit)) (now (other .exit)) ⌝ }
+fn info_verdict(b: Buffer, first: &[u32], second: &[u32], g: Glyph) -> Verdict
+    ensures { λ v. ⌜ InfoDecided g b (now (first .entry)) (now (second .entry)) v ⌝ }
 {
-    let phase = b.phase;
-    if state::have_output(phase) {
-        return write_one(b, run, other, g, g.glyph);
+    if state::is_sound(b, first, second) {
+        let phase = b.phase;
+        if state::have_output(phase) {
+            return write_verdict(b, records::glyphs::capacity(first), 0, 1, true);
+        }
+        return verdicts::refused(b, Refusal::WrongPhase);
     }
-    state::refusal(b, Refusal::WrongPhase)
+    verdicts::refused(b, Refusal::Contradiction)
 }
 
 // 0C
 pub fn output_info(b: Buffer, first: &mut [u32], second: &mut [u32], g: Glyph) -> Reply
     ensures { λ r. ⌜ Meets (λ capacity a. outputInfo capacity (seen g .glyph) (seen g .info) a) b (now (first .entry)) (now (second .entry)) r (now (first .exit)) (now (second .exit)) ⌝ }
 {
-    if state::is_sound(b, first, second) {
-        if b.swapped {
-            return info_in(b, second, first, g);
-        }
-        return info_in(b, first, second, g);
+    let v = info_verdict(b, first, second, g);
+    if v.acts {
+        puts::put_by(first, second, b.swapped, b.have_separate_output, v.apart, b.out_len.0, g);
     }
-    state::refusal(b, Refusal::Contradiction)
+    verdicts::settled(b, v)
 }
 
 // The last glyph of the output, in whichever slice it lies.
@@ -170,53 +174,51 @@ pub(crate) fn last_done(run: &[u32], other: &[u32], separate: bool, out_len: usi
     records::glyphs::get(run, out_len - 1)
 }
 
-// With both lists empty only the size is made.
-fn make_size(b: Buffer, run: &[u32]) -> Reply
-    requires { ⌜ b .«out_len» .0 + 1 ≤ 1048577 ⌝ }
-    ensures { λ r. ⌜ ((other : List ℕ) → SyncOutput b (now (run .entry)) other → MeetsIn (λ capacity a. writing capacity 1 (sized (outLen a + 1) a) a) b (now (run .entry)) other r (now (run .entry)) other) ⌝ }
+// What is left of a verdict where there is no glyph to be copied: its size.
+fn size_alone(v: Verdict) -> Verdict
+    ensures { λ r. ⌜ r ≡ sizeAlone v ⌝ }
 {
-    let size = b.out_len.0 + 1;
-    let room = state::room_for(b.limits, records::glyphs::capacity(run), size);
-    match room {
-        Room::Fits => state::accepted(state::with_limits(
-            b,
-            records::counters::grow(b.limits, size),
-        )),
-        Room::GivesUp => state::accepted(state::with_limits(b, records::counters::fail(b.limits))),
-        Room::Over => state::refusal(b, Refusal::OverCapacity),
-    }
+    let mut r = v;
+    r.out_len = 0;
+    r
 }
 
-fn output_in(b: Buffer, run: &mut [u32], other: &mut [u32], number: u32) -> Reply
-    requires { ⌜ Held b (now run) (now other) ⌝ }
-    ensures { λ r. ⌜ MeetsIn (λ capacity a. outputGlyph capacity number a) b (now (run .entry)) (now (other .entry)) r (now (run .exit)) (now (other .exit)) ⌝ }
+fn output_verdict(b: Buffer, first: &[u32], second: &[u32], number: u32) -> Verdict
+    ensures { λ v. ⌜ OutputDecided (λ capacity a. outputGlyph capacity number a) false number (v .apart) b (now (first .entry)) (now (second .entry)) v ⌝ }
 {
-    let phase = b.phase;
-    if state::have_output(phase) {
-        let idx = b.idx.0;
-        let out_len = b.out_len.0;
-        if idx < b.len.0 {
-            let g = records::glyphs::get(run, idx);
-            return write_one(b, run, other, g, number);
+    if state::is_sound(b, first, second) {
+        let phase = b.phase;
+        if state::have_output(phase) {
+            let some = b.idx.0 < b.len.0 + b.out_len.0;
+            let v = write_verdict(b, records::glyphs::capacity(first), 0, 1, some);
+            if some {
+                return v;
+            }
+            return size_alone(v);
         }
-        if 0 < out_len {
-            let g = last_done(run, other, b.have_separate_output, out_len);
-            return write_one(b, run, other, g, number);
-        }
-        return make_size(b, run);
+        return verdicts::refused(b, Refusal::WrongPhase);
     }
-    state::refusal(b, Refusal::WrongPhase)
+    verdicts::refused(b, Refusal::Contradiction)
 }
 
 // 0B
 pub fn output_glyph(b: Buffer, first: &mut [u32], second: &mut [u32], number: u32) -> Reply
     ensures { λ r. ⌜ Meets (λ capacity a. outputGlyph capacity number a) b (now (first .entry)) (now (second .entry)) r (now (first .exit)) (now (second .exit)) ⌝ }
 {
-    if state::is_sound(b, first, second) {
-        if b.swapped {
-            return output_in(b, second, first, number);
-        }
-        return output_in(b, first, second, number);
+    let v = output_verdict(b, first, second, number);
+    if v.acts {
+        puts::output_by(
+            first,
+            second,
+            b.swapped,
+            b.have_separate_output,
+            v.apart,
+            false,
+            b.idx.0,
+            b.len.0,
+            b.out_len.0,
+            number,
+        );
     }
-    state::refusal(b, Refusal::Contradiction)
+    verdicts::settled(b, v)
 }

@@ -1,28 +1,20 @@
+use mathlib.Core.Logic.{⊎-elim}
+use Rattle.lists.proofs.Decisions.{end-acted, end-still, kept-length}
 use borrow.Author.Needs.{needs}
 use Rattle.edits.proofs.replacing.replace_glyph.Statement.{statement}
 use Rattle.edits.proofs.replacing.replace_glyph.Tie as tie
 
-slice-aggregate-replace-glyphs : tie.Need-slice-aggregate-replace-glyphs
-slice-aggregate-replace-glyphs c = search needs
-
-replace-glyphs-requires : tie.Need-replace-glyphs-requires
-replace-glyphs-requires c κs = search needs
+output-by-requires : tie.Need-output-by-requires
+output-by-requires c κs = c .before .before .before .one-verdict .ensures .is .asked (c .before .before .if1 .taken)
 
 same-length : tie.Need-same-length
-same-length c = search needs
+same-length c = ⊎-elim (λ w. search (kept-length, needs)) (λ w. search (kept-length, needs)) (c .before .if1 .came)
 
 same-length-2 : tie.Need-same-length-2
-same-length-2 c = search needs
+same-length-2 c = ⊎-elim (λ w. search (kept-length, needs)) (λ w. search (kept-length, needs)) (c .before .if1 .came)
 
 returns : tie.Need-returns
-returns c = c .before .before .before .before .replace-glyphs .ensures
+returns c = ⊎-elim (λ w. search end-acted) (λ w. search end-still) (c .before .if1 .came)
 
 pub replace-glyph-spec : {M : Type 1} → statement M
-replace-glyph-spec =
-    tie.close
-    (tie.spec
-    slice-aggregate-replace-glyphs
-    replace-glyphs-requires
-    same-length
-    same-length-2
-    returns)
+replace-glyph-spec = tie.close (tie.spec (search needs) output-by-requires (search needs) same-length same-length-2 returns)

@@ -6,8 +6,8 @@ use Rattle.records.proofs.View.{glyphs-fit}
 use Rattle.edits.specs.Acts.{given}
 use Rattle.edits.proofs.Acting.{Putting, putting-none, putting-more, putting-done}
 use borrow.Author.Needs.{needs}
-use Rattle.edits.proofs.writing.put_copies.Statement.{statement}
-use Rattle.edits.proofs.writing.put_copies.Tie as tie
+use Rattle.edits.proofs.puts.put_copies.Statement.{statement}
+use Rattle.edits.proofs.puts.put_copies.Tie as tie
 
 abbrev Inv-loop : tie.InvT-loop
 Inv-loop ws₀ at g numbers bytes n i₀ ws i = Putting ws₀ at (seen g .info) (given numbers bytes) n ws i

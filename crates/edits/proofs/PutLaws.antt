@@ -1,0 +1,177 @@
+-- Glyphs put behind the output: what the acts by places leave, and what that is on the account.
+use mathlib.Core.{Path._≡_, Path.refl, Path.sym, Path.ap, Path._∙_, Path.subst, Bool.Bool, Bool.true, Bool.false, Bool.cond, Bool._||_, Bool.false≢true, List.List, List.[], List._∷_, List._++_}
+use Prim.Native.Nat.{ℕ, _+_, _-_, _≤_, _<_}
+use native.Mathlib.Omega.{arith}
+use borrow.Author.Tests.{le-ltb, lt-ltb, ltb-false}
+use lib.ListN.{length, take, drop, getD}
+use lib.Seq.{slice, drop-drop, length-paste}
+use Rattle.records.specs.{Glyphs.Glyph, Ranges.copies, View.glyphs, View.seen, View.zeroGlyph}
+use Rattle.records.specs.declared.{Glyph.Glyph as Words}
+use Rattle.records.proofs.View.{glyphs-same, whole-same, seen-number}
+use Rattle.lists.specs.declared.{Buffer.Buffer}
+use Rattle.lists.specs.{Account.Account, Account.outputPhase, Account.withGone, Copied.copied, Cursor.dropping, State.accountOf, State.Held, States.atPlaces, States.apartBuffer}
+use Rattle.lists.proofs.{Copying.take-copied, Copying.drop-copied, Copying.range-same, Outputs.output, Outputs.output-cong, Outputs.output-places, Outputs.output-account, Outputs.beyond}
+use Rattle.edits.specs.{Acts.Acts, Acts.Roomy, Acts.given, Puts.overtakes, Puts.putBuffer, Puts.Puttable, Puts.Wrote, Puts.modelAt, Puts.Modelled, Puts.Outputs, Writing.written}
+use Rattle.edits.proofs.GivenLaws.{given-none}
+
+-- ---- where the glyphs went
+module _ {separate apart : Bool} {to n : ℕ} {new : List (Glyph ℕ)} {run other : List ℕ} where
+  pub wrote-apart : {other′ : List ℕ} → separate ≡ true → glyphs other′ ≡ copied (glyphs other) to new 0 n → Wrote separate apart to new n run other run other′
+  wrote-apart h e = record { run-is = rw h; other-is = rw h e }
+
+  pub wrote-moved : {mid : List (Glyph ℕ)} {other′ : List ℕ} → separate ≡ false → apart ≡ true → mid ≡ copied (glyphs other) 0 (glyphs run) 0 to → glyphs other′ ≡ copied mid to new 0 n → Wrote separate apart to new n run other run other′
+  wrote-moved h k e q = record { run-is = rw (h, k); other-is = rw (h, k) (q ∙ ap (λ (l : List (Glyph ℕ)). copied l to new 0 n) e) }
+
+  pub wrote-within : {run′ : List ℕ} → separate ≡ false → apart ≡ false → glyphs run′ ≡ copied (glyphs run) to new 0 n → Wrote separate apart to new n run other run′ other
+  wrote-within h k e = record { run-is = rw (h, k) e; other-is = rw (h, k) }
+
+pub moved-room : {to n : ℕ} {run other : List ℕ} (mid : List ℕ) → Puttable to n run other → length mid ≡ length other → to + n ≤ length (glyphs mid)
+moved-room {to} {n} {run} {other} mid v e = let same : length (glyphs mid) ≡ length (glyphs other) = glyphs-same mid other e in omega (arith, v .fits, v .same)
+
+-- ---- which glyph is copied
+module _ (separate : Bool) (i l o : ℕ) (run other : List ℕ) where
+  pub model-first : i < l → modelAt separate i l o run other ≡ getD (glyphs run) i zeroGlyph
+  unfolding modelAt
+  model-first h = rw (lt-ltb i l h)
+
+  pub model-last : l ≤ i → modelAt separate i l o run other ≡ getD (cond separate (glyphs other) (glyphs run)) (o - 1) zeroGlyph
+  unfolding modelAt
+  model-last h = rw (le-ltb i l h)
+
+module _ {u : Glyph ℕ} {separate : Bool} {i l o : ℕ} {run other : List ℕ} where
+  pub reads-first : i < l → u ≡ getD (glyphs run) i zeroGlyph → Modelled separate i l o run other u
+  reads-first h e = record { is = e ∙ sym (model-first separate i l o run other h) }
+
+  pub reads-last : l ≤ i → u ≡ getD (cond separate (glyphs other) (glyphs run)) (o - 1) zeroGlyph → Modelled separate i l o run other u
+  reads-last h e = record { is = e ∙ sym (model-last separate i l o run other h) }
+
+  pub outputs-of : {apart own : Bool} {x number : ℕ} {run′ other′ : List ℕ} → Modelled separate i l o run other u → x ≡ cond own (u .glyph) number → Wrote separate apart o (copies (u .info) (given (x ∷ []) [])) 1 run other run′ other′
+      → Outputs separate apart own i l o number run other run′ other′
+  outputs-of {apart} {own} {x} {number} {run′} {other′} eg ex w =
+      let m : Glyph ℕ = modelAt separate i l o run other in
+      let en : x ≡ cond own (m .glyph) number = ex ∙ ap (λ (t : Glyph ℕ). cond own (t .glyph) number) (eg .is) in
+      let e : copies (u .info) (given (x ∷ []) []) ≡ copies (m .info) (cond own (m .glyph) number ∷ []) =
+      ap (copies (u .info)) (given-none (x ∷ [])) ∙ (λ k. copies (eg .is k .info) (en k ∷ [])) in
+      record { is = subst (λ (new : List (Glyph ℕ)). Wrote separate apart o new 1 run other run′ other′) e w }
+
+pub own-number : {own : Bool} (g : Words) (number : ℕ) → own ≡ true → g .glyph ≡ cond own (seen g .glyph) number
+own-number g number h = rw h (sym (seen-number g))
+
+pub other-number : {own : Bool} (g : Words) (number : ℕ) → own ≡ false → number ≡ cond own (seen g .glyph) number
+other-number g number h = rw h
+
+-- ---- n elements of a list went to place o of the output, which lies apart (s), moved there (x) or lies in the run
+module _ {A : Type 0} (run other new : List A) (o n : ℕ) (out-run : o + n ≤ length run) (out-other : o + n ≤ length other) (in-new : 0 + n ≤ length new) where
+  moved-long : length (copied other 0 run 0 o) ≡ length other
+  moved-long = length-paste other 0 run o (omega arith) (omega arith)
+
+  moved-front : take o (copied other 0 run 0 o) ≡ take o run
+  moved-front = let zero-more : 0 + o ≡ o = omega arith in ap (λ (k : ℕ). take k (copied other 0 run 0 o)) (sym zero-more) ∙ take-copied other run 0 0 o (omega arith) (omega arith)
+
+  put-done : (s x : Bool) (run′ other′ : List A) → run′ ≡ cond (s || x) run (copied run o new 0 n) → other′ ≡ cond s (copied other o new 0 n) (cond x (copied (copied other 0 run 0 o) o new 0 n) other)
+      → take (o + n) (cond (s || x) other′ run′) ≡ take o (cond s other run) ++ take n new
+  put-done true x run′ other′ er eo = ap (take (o + n)) eo ∙ take-copied other new o 0 n (omega arith) in-new
+  put-done false true run′ other′ er eo = ap (take (o + n)) eo ∙ (take-copied (copied other 0 run 0 o) new o 0 n (omega (arith, moved-long)) in-new ∙ ap (λ (l : List A). l ++ take n new) moved-front)
+  put-done false false run′ other′ er eo = ap (take (o + n)) er ∙ take-copied run new o 0 n (omega arith) in-new
+
+  put-rest : (s x : Bool) (run′ : List A) (i m e : ℕ) → run′ ≡ cond (s || x) run (copied run o new 0 n) → (s ≡ false → x ≡ false → o + n ≤ i + m) → slice (i + m) e run′ ≡ drop m (slice i e run)
+  put-rest true x run′ i m e er q = ap (slice (i + m) e) er ∙ sym (drop-drop m i (take e run))
+  put-rest false true run′ i m e er q = ap (slice (i + m) e) er ∙ sym (drop-drop m i (take e run))
+  put-rest false false run′ i m e er q =
+      ap (slice (i + m) e) er
+      ∙ (range-same (copied run o new 0 n) run (i + m) e (drop-copied run new o 0 n (i + m) (q refl refl) (omega arith) in-new)
+      ∙ sym (drop-drop m i (take e run)))
+
+  put-run : (s x : Bool) (run′ : List A) (m : ℕ) → o + n ≤ m → run′ ≡ cond (s || x) run (copied run o new 0 n) → drop m run′ ≡ drop m run
+  put-run true x run′ m h er = ap (drop m) er
+  put-run false true run′ m h er = ap (drop m) er
+  put-run false false run′ m h er = ap (drop m) er ∙ drop-copied run new o 0 n m h (omega arith) in-new
+
+  put-other : (s x : Bool) (other′ : List A) (m : ℕ) → o + n ≤ m → other′ ≡ cond s (copied other o new 0 n) (cond x (copied (copied other 0 run 0 o) o new 0 n) other) → drop m other′ ≡ drop m other
+  put-other true x other′ m h eo = ap (drop m) eo ∙ drop-copied other new o 0 n m h (omega arith) in-new
+  put-other false true other′ m h eo =
+      ap (drop m) eo
+      ∙ (drop-copied (copied other 0 run 0 o) new o 0 n m h (omega (arith, moved-long)) in-new ∙ drop-copied other run 0 0 o m (omega arith) (omega arith) (omega arith))
+  put-other false false other′ m h eo = ap (drop m) eo
+
+-- ---- the state that is left
+or-true : (s : Bool) → s || true ≡ true
+or-true true = refl
+or-true false = refl
+
+or-false : (s : Bool) → s || false ≡ s
+or-false true = refl
+or-false false = refl
+
+module _ (b : Buffer) (m n : ℕ) where
+  -- the output stays where it is only where it does not overtake the cursor
+  pub stays-behind : b .«have_separate_output» ≡ false → overtakes b m n ≡ false → b .«out_len» .0 + n ≤ b .idx .0 + m
+  unfolding overtakes
+  stays-behind h k = ltb-false (b .idx .0 + m) (b .«out_len» .0 + n) (rw h at k)
+
+  put-account : (x : Bool) (run other : List ℕ) → outputPhase (b .phase) ≡ true
+      → accountOf (putBuffer x m n b) run other ≡ output b (b .idx .0 + m) (take (b .«out_len» .0 + n) (cond (b .«have_separate_output» || x) (glyphs other) (glyphs run))) (slice (b .idx .0 + m) (b .len .0) (glyphs run))
+  unfolding putBuffer atPlaces apartBuffer
+  put-account true run other h =
+      output-places (apartBuffer b) (b .idx .0 + m) (b .len .0) (b .«out_len» .0 + n) run other h
+      ∙ output-cong b refl (ap (λ (s : Bool). take (b .«out_len» .0 + n) (cond s (glyphs other) (glyphs run))) (sym (or-true (b .«have_separate_output»)))) refl
+  put-account false run other h =
+      output-places b (b .idx .0 + m) (b .len .0) (b .«out_len» .0 + n) run other h
+      ∙ output-cong b refl (ap (λ (s : Bool). take (b .«out_len» .0 + n) (cond s (glyphs other) (glyphs run))) (sym (or-false (b .«have_separate_output»)))) refl
+
+module _ {b : Buffer} {m n : ℕ} {run other : List ℕ} (v : Roomy b m n run other) (x : Bool) (q : b .«have_separate_output» ≡ false → x ≡ false → b .«out_len» .0 + n ≤ b .idx .0 + m) where
+  put-held : Held (putBuffer x m n b) run other
+  unfolding putBuffer atPlaces apartBuffer
+  put-held = by x refl
+    where
+      by : (y : Bool) → x ≡ y → Held (putBuffer y m n b) run other
+      by true e = record { idx-in = v .in-len; len-in = v .held .len-in; out-in = v .in-size; all-in = v .held .all-in; most = v .held .most; same = v .held .same; whole = v .held .whole; behind = λ p s. absurd (false≢true (sym s)); none = λ p. absurd (false≢true (sym p ∙ v .output)) }
+      by false e = record { idx-in = v .in-len; len-in = v .held .len-in; out-in = v .in-size; all-in = v .held .all-in; most = v .held .most; same = v .held .same; whole = v .held .whole; behind = λ p s. q s e; none = λ p. absurd (false≢true (sym p ∙ v .output)) }
+
+  put-limits : (putBuffer x m n b) .limits ≡ b .limits
+  unfolding putBuffer atPlaces apartBuffer
+  put-limits = by x
+    where
+      by : (y : Bool) → (putBuffer y m n b) .limits ≡ b .limits
+      by true = refl
+      by false = refl
+
+  put-side : (putBuffer x m n b) .swapped ≡ b .swapped
+  unfolding putBuffer atPlaces apartBuffer
+  put-side = by x
+    where
+      by : (y : Bool) → (putBuffer y m n b) .swapped ≡ b .swapped
+      by true = refl
+      by false = refl
+
+  module _ {new : List (Glyph ℕ)} {run′ other′ : List ℕ} (many : n ≤ length new) (w : Wrote (b .«have_separate_output») x (b .«out_len» .0) new n run other run′ other′) where
+    room-run : b .«out_len» .0 + n ≤ length (glyphs run)
+    room-run = omega (arith, v .in-size, v .held .all-in)
+
+    room-other : b .«out_len» .0 + n ≤ length (glyphs other)
+    room-other = let same : length (glyphs run) ≡ length (glyphs other) = glyphs-same run other (v .held .same) in omega (arith, room-run)
+
+    put-is : accountOf (putBuffer x m n b) run′ other′ ≡ dropping m (written (take n new) (accountOf b run other))
+    unfolding dropping written withGone
+    put-is =
+        put-account b m n x run′ other′ (v .output)
+        ∙ (output-cong b refl
+        (put-done (glyphs run) (glyphs other) new (b .«out_len» .0) n room-run room-other (omega arith) (b .«have_separate_output») x (glyphs run′) (glyphs other′) (w .run-is) (w .other-is))
+        (put-rest (glyphs run) (glyphs other) new (b .«out_len» .0) n room-run room-other (omega arith) (b .«have_separate_output») x (glyphs run′) (b .idx .0) m (b .len .0) (w .run-is) q)
+        ∙ ap (λ (a : Account ℕ). dropping m (written (take n new) a)) (sym (output-account b run other (v .output))))
+
+    pub wrote-acts : length run′ ≡ length run → length other′ ≡ length other → Acts (λ a. dropping m (written (take n new) a)) b run other (putBuffer x m n b) run′ other′
+    wrote-acts lr lo =
+        let a : ℕ = b .limits .allocated in
+        let behind-run : drop a (glyphs run′) ≡ drop a (glyphs run) =
+        put-run (glyphs run) (glyphs other) new (b .«out_len» .0) n room-run room-other (omega arith) (b .«have_separate_output») x (glyphs run′) a (v .in-size) (w .run-is) in
+        let behind-other : drop a (glyphs other′) ≡ drop a (glyphs other) =
+        put-other (glyphs run) (glyphs other) new (b .«out_len» .0) n room-run room-other (omega arith) (b .«have_separate_output») x (glyphs other′) a (v .in-size) (w .other-is) in
+        record {
+          is = put-is;
+          size = ap (λ (l : _). l .allocated) put-limits;
+          side = put-side;
+          run-beyond = beyond a run run′ (v .held .whole) lr behind-run;
+          other-beyond = beyond a other other′ (whole-same run other (v .held .same) (v .held .whole)) lo behind-other;
+          held = put-held;
+        }
