@@ -3,16 +3,15 @@ use mathlib.Core.{Path._≡_, Path.refl, Path.sym, Path.ap, Path._∙_, Path.sub
 use Prim.Native.Nat.{ℕ, _+_, _-_, _≤_, _<_}
 use native.Mathlib.Omega.{arith}
 use borrow.Author.Tests.{le-ltb, lt-ltb, ltb-false}
-use lib.ListN.{length, take, drop, getD}
+use lib.ListN.{length, take, drop, getD, set}
 use lib.Seq.{slice, drop-drop, length-paste}
 use Rattle.records.specs.{Glyphs.Glyph, Ranges.copies, View.glyphs, View.seen, View.zeroGlyph}
 use Rattle.records.specs.declared.{Glyph.Glyph as Words}
 use Rattle.records.proofs.View.{glyphs-same, whole-same, seen-number}
 use Rattle.lists.specs.declared.{Buffer.Buffer}
-use Rattle.lists.specs.{Account.Account, Account.outputPhase, Account.withGone, Copied.copied, Cursor.dropping, State.accountOf, State.Held, States.atPlaces, States.apartBuffer}
-use Rattle.lists.proofs.{Copying.take-copied, Copying.drop-copied, Copying.range-same, Outputs.output, Outputs.output-cong, Outputs.output-places, Outputs.output-account, Outputs.beyond}
-use Rattle.edits.specs.{Acts.Acts, Acts.Roomy, Acts.given, Puts.overtakes, Puts.putBuffer, Puts.Puttable, Puts.Wrote, Puts.modelAt, Puts.Modelled, Puts.Outputs, Writing.written}
-use Rattle.edits.proofs.GivenLaws.{given-none}
+use Rattle.lists.specs.{Account.Account, Account.outputPhase, Account.withGone, Copied.copied, Cursor.dropping, State.accountOf, State.Held, States.atPlaces, States.apartBuffer, Verdicts.Sided}
+use Rattle.lists.proofs.{Copying.copied-none, Copying.copied-more, Copying.take-copied, Copying.drop-copied, Copying.range-same, Outputs.output, Outputs.output-cong, Outputs.output-places, Outputs.output-account, Outputs.beyond}
+use Rattle.edits.specs.{Acts.Acts, Acts.Roomy, MergeActs.Merges, Puts.overtakes, Puts.putBuffer, Puts.Puttable, Puts.Wrote, Puts.Replaceable, Puts.Replaces, Puts.modelAt, Puts.Modelled, Puts.Outputs, Writing.written}
 
 -- ---- where the glyphs went
 module _ {separate apart : Bool} {to n : ℕ} {new : List (Glyph ℕ)} {run other : List ℕ} where
@@ -27,6 +26,29 @@ module _ {separate apart : Bool} {to n : ℕ} {new : List (Glyph ℕ)} {run othe
 
 pub moved-room : {to n : ℕ} {run other : List ℕ} (mid : List ℕ) → Puttable to n run other → length mid ≡ length other → to + n ≤ length (glyphs mid)
 moved-room {to} {n} {run} {other} mid v e = let same : length (glyphs mid) ≡ length (glyphs other) = glyphs-same mid other e in omega (arith, v .fits, v .same)
+
+pub moved-one : {to : ℕ} {run other : List ℕ} (mid : List ℕ) → Puttable to 1 run other → length mid ≡ length other → to < length (glyphs mid)
+moved-one mid v e = let room = moved-room mid v e in omega arith
+
+-- one glyph that is put is a copy of one
+put-copied : (d : List (Glyph ℕ)) (x : Glyph ℕ) (to : ℕ) {l : List (Glyph ℕ)} → to + 1 ≤ length d → l ≡ set d to x → l ≡ copied d to (x ∷ []) 0 1
+put-copied d x to h e =
+    let here : to + 0 ≡ to = omega arith in
+    e
+    ∙ (ap (λ (k : ℕ). set d k x) (sym here)
+    ∙ (ap (λ (y : List (Glyph ℕ)). set y (to + 0) x) (copied-none d (x ∷ []) to 0) ∙ copied-more zeroGlyph d (x ∷ []) to 0 0 (omega arith) (omega arith)))
+
+module _ {separate apart : Bool} {to : ℕ} {u : Glyph ℕ} {run other : List ℕ} (v : Puttable to 1 run other) where
+  pub one-apart : {other′ : List ℕ} → separate ≡ true → glyphs other′ ≡ set (glyphs other) to u → Wrote separate apart to (u ∷ []) 1 run other run other′
+  one-apart h e = wrote-apart h (put-copied (glyphs other) u to (omega (arith, v .fits, v .same)) e)
+
+  pub one-moved : {mid : List (Glyph ℕ)} {other′ : List ℕ} → separate ≡ false → apart ≡ true → mid ≡ copied (glyphs other) 0 (glyphs run) 0 to → glyphs other′ ≡ set mid to u → Wrote separate apart to (u ∷ []) 1 run other run other′
+  one-moved {mid} h k e q =
+      let long : length mid ≡ length (glyphs other) = ap length e ∙ length-paste (glyphs other) 0 (glyphs run) to (omega (arith, v .fits, v .same)) (omega (arith, v .fits)) in
+      wrote-moved h k e (put-copied mid u to (omega (arith, v .fits, v .same)) q)
+
+  pub one-within : {run′ : List ℕ} → separate ≡ false → apart ≡ false → glyphs run′ ≡ set (glyphs run) to u → Wrote separate apart to (u ∷ []) 1 run other run′ other
+  one-within h k e = wrote-within h k (put-copied (glyphs run) u to (v .fits) e)
 
 -- ---- which glyph is copied
 module _ (separate : Bool) (i l o : ℕ) (run other : List ℕ) where
@@ -45,14 +67,14 @@ module _ {u : Glyph ℕ} {separate : Bool} {i l o : ℕ} {run other : List ℕ} 
   pub reads-last : l ≤ i → u ≡ getD (cond separate (glyphs other) (glyphs run)) (o - 1) zeroGlyph → Modelled separate i l o run other u
   reads-last h e = record { is = e ∙ sym (model-last separate i l o run other h) }
 
-  pub outputs-of : {apart own : Bool} {x number : ℕ} {run′ other′ : List ℕ} → Modelled separate i l o run other u → x ≡ cond own (u .glyph) number → Wrote separate apart o (copies (u .info) (given (x ∷ []) [])) 1 run other run′ other′
+  pub outputs-of : {apart own : Bool} {r : Glyph ℕ} {x number : ℕ} {run′ other′ : List ℕ} → Modelled separate i l o run other u → x ≡ cond own (u .glyph) number → r ≡ record { glyph = x; info = u .info } → Wrote separate apart o (r ∷ []) 1 run other run′ other′
       → Outputs separate apart own i l o number run other run′ other′
-  outputs-of {apart} {own} {x} {number} {run′} {other′} eg ex w =
+  unfolding copies
+  outputs-of {apart} {own} {r} {x} {number} {run′} {other′} eg ex er w =
       let m : Glyph ℕ = modelAt separate i l o run other in
       let en : x ≡ cond own (m .glyph) number = ex ∙ ap (λ (t : Glyph ℕ). cond own (t .glyph) number) (eg .is) in
-      let e : copies (u .info) (given (x ∷ []) []) ≡ copies (m .info) (cond own (m .glyph) number ∷ []) =
-      ap (copies (u .info)) (given-none (x ∷ [])) ∙ (λ k. copies (eg .is k .info) (en k ∷ [])) in
-      record { is = subst (λ (new : List (Glyph ℕ)). Wrote separate apart o new 1 run other run′ other′) e w }
+      let e : r ≡ record { glyph = cond own (m .glyph) number; info = m .info } = er ∙ (λ k. record { glyph = en k; info = eg .is k .info }) in
+      record { is = subst (λ (y : Glyph ℕ). Wrote separate apart o (y ∷ []) 1 run other run′ other′) e w }
 
 pub own-number : {own : Bool} (g : Words) (number : ℕ) → own ≡ true → g .glyph ≡ cond own (seen g .glyph) number
 own-number g number h = rw h (sym (seen-number g))
@@ -175,3 +197,18 @@ module _ {b : Buffer} {m n : ℕ} {run other : List ℕ} (v : Roomy b m n run ot
           other-beyond = beyond a other other′ (whole-same run other (v .held .same) (v .held .whole)) lo behind-other;
           held = put-held;
         }
+
+-- ---- the merge of inputs before it
+module _ {i l o m n x : ℕ} {run other : List ℕ} (v : Replaceable i l o m n x run other) where
+  pub replace-first : (run₁ : List ℕ) → length run₁ ≡ length run → i < length (glyphs run₁)
+  replace-first run₁ e = let same : length (glyphs run₁) ≡ length (glyphs run) = glyphs-same run₁ run e in omega (arith, v .some, v .len-in)
+
+  pub replace-puttable : (run₁ other₁ : List ℕ) → length run₁ ≡ length run → length other₁ ≡ length other → Puttable o n run₁ other₁
+  replace-puttable run₁ other₁ lr lo =
+      let er : length (glyphs run₁) ≡ length (glyphs run) = glyphs-same run₁ run lr in
+      let eo : length (glyphs other₁) ≡ length (glyphs other) = glyphs-same other₁ other lo in
+      record { same = er ∙ (v .same ∙ sym eo); fits = omega (arith, v .fits) }
+
+pub replaces-of : {separate apart merges : Bool} {level i l o m n : ℕ} {gs run other run₁ other₁ run′ other′ : List ℕ} {u : Glyph ℕ} → Sided false (Merges separate merges level i l o i (i + m)) run other run₁ other₁ → length run₁ ≡ length run → length other₁ ≡ length other → u ≡ getD (glyphs run₁) i zeroGlyph
+    → Wrote separate apart o (copies (u .info) gs) n run₁ other₁ run′ other′ → Replaces separate apart merges level i l o m n gs run other run′ other′
+replaces-of {run₁ = run₁} {other₁ = other₁} {u = u} w lr lo eu q = record { run₁ = run₁; other₁ = other₁; run-long = lr; other-long = lo; merged = w; first = u; first-is = eu; wrote = q }

@@ -4,15 +4,14 @@ use Prim.Native.Nat.{ℕ, _+_, _-_, _≤_, _<_, _^_}
 use native.Mathlib.Omega.{arith}
 use borrow.Author.Tests.{ltb-true, ltb-false}
 use lib.{Dec.ltb, ListN.length, ListN.take, ListN.getD}
-use Rattle.records.specs.{Refusal, Contradiction, WrongPhase, OutOfRange, OverCapacity, Done, No, Limits, Counters.capacityOf, Counters.failed, Counters.grown, Glyphs.Glyph, Glyphs.Info, Ranges.copies, View.glyphs, View.seen, View.zeroGlyph, View.wordsFrom}
+use Rattle.records.specs.{Contradiction, WrongPhase, OutOfRange, OverCapacity, Done, No, Limits, Counters.capacityOf, Counters.failed, Counters.grown, Glyphs.Glyph, Glyphs.Info, Ranges.copies, View.glyphs, View.seen, View.zeroGlyph, View.wordsFrom}
 use Rattle.records.specs.declared.{Glyph.Glyph as Words}
-use Rattle.records.proofs.View.{length-glyphs, glyphs-same, seen-number}
-use Rattle.lists.specs.declared.{Buffer.Buffer, Reply.Reply, Verdict.Verdict, Room.Room, Room.the-variants.Fits, Room.the-variants.GivesUp, Room.the-variants.Over}
-use Rattle.lists.specs.{Account.Account, Account.outputPhase, Account.outLen, Account.sized, Contract.MeetsIn, Cursor.dropping, Moving.SyncOutput, Results.Result, Results.accepted, State.accountOf, State.sound, State.Soundness, State.Held, State.roomFor, States.reply, States.withLimitsOf, States.atPlaces, States.apartBuffer, Verdicts.leaving, Verdicts.Leaves, Verdicts.Sized, Verdicts.bySize, Verdicts.wroteBuffer, Verdicts.failedBuffer, Verdicts.settledBuffer, Verdicts.settled, Verdicts.Decided}
-use Rattle.lists.proofs.{Accounts.sound-held, Accounts.fits-within, Accounts.output-of, Calls.in-call, Decisions.is-sound, Decisions.Lying, Decisions.Refuses, Decisions.Needs, Decisions.Rooms, Decisions.room-of, Decisions.meets-sided, Decisions.decided-unsound, Decisions.decided-refused, Decisions.decided-accepted, Decisions.near-limits, Decisions.decided-sized, Decisions.leaves-is, Inner.limits-side, Inner.sized-of}
-use Rattle.edits.specs.{Acts.Acts, Acts.Roomy, Acts.given, Acts.writesOne, Puts.overtakes, Puts.lying, Puts.moving, Puts.sizeAlone, Puts.Writes, Puts.putBuffer, Puts.Puttable, Puts.Wrote, Puts.modelAt, Puts.Outputable, Puts.Outputs, Puts.OutputDecided, Puts.InfoDecided, Writing.written, Writing.model, Writing.writing, Writing.copyGlyph, Writing.outputGlyph, Writing.outputInfo}
+use Rattle.records.proofs.View.{length-glyphs, glyphs-same}
+use Rattle.lists.specs.declared.{Buffer.Buffer, Verdict.Verdict, Room.Room, Room.the-variants.Fits, Room.the-variants.GivesUp, Room.the-variants.Over}
+use Rattle.lists.specs.{Account.Account, Account.outputPhase, Account.outLen, Account.sized, Contract.MeetsIn, Cursor.dropping, Moving.SyncOutput, Results.Result, State.accountOf, State.sound, State.Soundness, State.Held, State.roomFor, States.reply, States.withLimitsOf, States.atPlaces, States.apartBuffer, Verdicts.Leaves, Verdicts.Sized, Verdicts.bySize, Verdicts.wroteBuffer, Verdicts.failedBuffer, Verdicts.settledBuffer, Verdicts.settled, Verdicts.Decided}
+use Rattle.lists.proofs.{Accounts.sound-held, Accounts.fits-within, Accounts.output-of, Calls.in-call, Decisions.is-sound, Decisions.Lying, Decisions.Needs, Decisions.Rooms, Decisions.room-of, Decisions.meets-sided, Decisions.decided-unsound, Decisions.decided-refused, Decisions.decided-accepted, Decisions.near-limits, Decisions.decided-sized, Decisions.leaves-is, Inner.sized-of}
+use Rattle.edits.specs.{Acts.Acts, Acts.writesOne, Puts.overtakes, Puts.lying, Puts.moving, Puts.limited, Puts.costing, Puts.sizeAlone, Puts.Writes, Puts.putBuffer, Puts.Puttable, Puts.Wrote, Puts.modelAt, Puts.Outputable, Puts.Outputs, Puts.OutputDecided, Puts.InfoDecided, Writing.written, Writing.model, Writing.writing, Writing.copyGlyph, Writing.outputGlyph}
 use Rattle.edits.proofs.PutLaws.{stays-behind, wrote-acts, model-first, model-last}
-use Rattle.edits.proofs.GivenLaws.{given-none}
 use Rattle.edits.proofs.Writings.{writing-room, writing-done, size-done, grown-roomy, out-size, dropping-none, rest-first, rest-none, rest-short, rest-long, done-last, all-some, all-none, model-rest, model-done, copy-none, copy-outside, copy-writes, glyph-none, glyph-writes, glyph-sizes, info-none, info-writes}
 
 -- ---- the verdict of a call that writes
@@ -33,6 +32,13 @@ module _ {capacity : ℕ} {b : Buffer} {i o : ℕ} {acts : Bool} {w : Verdict} (
 
   pub writes-still : w .acts ≡ false → Writes capacity b i o acts w
   writes-still h = record { is = as-it-acts h }
+
+costs-nothing : (v : Verdict) → costing (λ l. l) v ≡ v
+costs-nothing v = ap (λ (l : Limits). limited l v) (same (v .acts))
+  where
+    same : (t : Bool) → cond t (v .limits) (v .limits) ≡ v .limits
+    same true = refl
+    same false = refl
 
 -- numbers of the code that stay small
 module _ {b : Buffer} {f s : List ℕ} {t : Bool} (w : Soundness b f s t) (h : t ≡ true) where
@@ -67,8 +73,8 @@ module _ {b : Buffer} {run other run′ other′ : List ℕ} (m n : ℕ) (new : 
       writing-done v n (putting m n new) fit (u .side) (subst (λ (k : ℕ). wordsFrom k run′ ≡ wordsFrom k run) (sym (u .size)) (u .run-beyond)) (subst (λ (k : ℕ). wordsFrom k other′ ≡ wordsFrom k other) (sym (u .size)) (u .other-beyond)) (u .held) e refl
 
 -- ---- the size is there, gives up or is over
-pub record Puts (call : ℕ → Account ℕ → Result ℕ) (b : Buffer) (f : List ℕ) (i o : ℕ) (Act : (run other run′ other′ : List ℕ) → Type 0) : Type 0 where
-  pub law : (run other run′ other′ : List ℕ) → Lying b f run other → length run′ ≡ length run → length other′ ≡ length other → Act run other run′ other′ → MeetsIn call b run other (reply (putBuffer (overtakes b i o) i o (grownBuffer o b)) Done) run′ other′
+pub record Puts (call : ℕ → Account ℕ → Result ℕ) (b : Buffer) (f : List ℕ) (i o : ℕ) (paid : Limits → Limits) (Act : (run other run′ other′ : List ℕ) → Type 0) : Type 0 where
+  pub law : (run other run′ other′ : List ℕ) → Lying b f run other → length run′ ≡ length run → length other′ ≡ length other → Act run other run′ other′ → MeetsIn call b run other (reply (putBuffer (overtakes b i o) i o (withLimitsOf (paid (grown (b .«out_len» .0 + o) (b .limits))) b)) Done) run′ other′
 
 abbrev isFits : Room → Bool
 isFits r = elim r [ Fits ↦ true | GivesUp ↦ false | Over ↦ false ]
@@ -81,12 +87,13 @@ module _ (call : ℕ → Account ℕ → Result ℕ) (b : Buffer) (f s : List �
       no : Rooms b f o → false ≡ true
       no fits = sym none ∙ ap isFits (sym k ∙ fits .law f s (record { long = refl; held = sound-held b f s h }))
 
-  -- an act is asked for where it is
-  pub decided-writes : (Ask : Type 0) (Act : Bool → (run other run′ other′ : List ℕ) → Type 0) {m : ℕ} → sound b f s ≡ true → Needs call b f o → (Rooms b f o → Puts call b f i o (Act (overtakes b i o))) → (Rooms b f o → Ask) → m ≡ capacityOf (length f) → Writes m b i o true v → Decided call b f s (settled b v) (v .acts) Ask (Act (v .apart))
+  -- an act is asked for where it is, at a cost
+  pub decided-writes : (Ask : Type 0) (Act : Bool → (run other run′ other′ : List ℕ) → Type 0) (paid : Limits → Limits) → sound b f s ≡ true → Needs call b f o → (Rooms b f o → Puts call b f i o paid (Act (overtakes b i o))) → (Rooms b f o → Ask)
+      → v ≡ costing paid (moving (overtakes b i o) (bySize (roomFor (capacityOf (length f)) (b .«out_len» .0 + o) (b .limits)) b i o true)) → Decided call b f s (settled b v) (v .acts) Ask (Act (v .apart))
   unfolding settled settledBuffer wroteBuffer putBuffer atPlaces withLimitsOf apartBuffer
-  decided-writes Ask Act {m} h r puts ask em w = by-room (roomFor (capacityOf (length f)) (b .«out_len» .0 + o) (b .limits)) refl (rw em at (w .is))
+  decided-writes Ask Act paid h r puts ask e = by-room (roomFor (capacityOf (length f)) (b .«out_len» .0 + o) (b .limits)) refl e
     where
-      by-room : (room : Room) → roomFor (capacityOf (length f)) (b .«out_len» .0 + o) (b .limits) ≡ room → v ≡ moving (overtakes b i o) (bySize room b i o true) → Decided call b f s (settled b v) (v .acts) Ask (Act (v .apart))
+      by-room : (room : Room) → roomFor (capacityOf (length f)) (b .«out_len» .0 + o) (b .limits) ≡ room → v ≡ costing paid (moving (overtakes b i o) (bySize room b i o true)) → Decided call b f s (settled b v) (v .acts) Ask (Act (v .apart))
       by-room Fits k q =
           let fits : Rooms b f o = record { law = λ run other l. room-of (b .«out_len» .0 + o) l k } in
           rw q (record {
@@ -116,10 +123,10 @@ module _ (call : ℕ → Account ℕ → Result ℕ) (b : Buffer) (f s : List �
       → (Rooms b f 1 → Ask) → m ≡ capacityOf (length f) → Writes m b 0 1 true v → Decided call b f s (settled b v) (v .acts) Ask (Act (v .apart))
   unfolding writesOne
   decided-one h o law of ask em q =
-      decided-writes call b f s v 0 1 Ask Act h
+      decided-writes call b f s v 0 1 Ask Act (λ l. l) h
       (record { then = _; law = λ run other l. law run other l ∙ writing-room (synced o l) 1 (λ a. written (copies (w run other) (number run other ∷ [])) (sized (outLen a + 1) a)) })
       (λ fits. record { law = λ run other run′ other′ l lr lo act. in-call (law run other l) (one-meets (synced o l) (fits .law run other l) lr lo (w run other) (number run other) (of (overtakes b 0 1) run other run′ other′ act)) })
-      ask em q
+      ask (rw em at (q .is) ∙ sym (costs-nothing _))
 
 -- what the acts ask for
 module _ {b : Buffer} {f s : List ℕ} (h : sound b f s ≡ true) where
@@ -223,6 +230,7 @@ module _ {b : Buffer} {f s : List ℕ} {v : Verdict} {g : Words} where
   info-spoils h k q = record { is = decided-refused h (record { law = λ run other l. info-none _ _ (seen g .glyph) (seen g .info) (output-of b run other ∙ k) }) q }
 
   pub info-decided : {m : ℕ} → sound b f s ≡ true → outputPhase (b .phase) ≡ true → m ≡ capacityOf (length f) → Writes m b 0 1 true v → InfoDecided g b f s v
-  info-decided h o em q = record { is = decided-one _ b f s v (λ run other. seen g .info) (λ run other. g .glyph) _ (λ x. Wrote (b .«have_separate_output») x (b .«out_len» .0) (copies (seen g .info) (given (g .glyph ∷ []) [])) 1) h o
-    (λ run other l. info-writes _ _ (output-of b run other ∙ o) (seen g .glyph) (seen g .info) ∙ ap (λ (n : ℕ). writesOne (seen g .info) n (capacityOf (length run)) (accountOf b run other)) (seen-number g))
-    (λ x run other run′ other′ act. subst (λ (l : List ℕ). Wrote (b .«have_separate_output») x (b .«out_len» .0) (copies (seen g .info) l) 1 run other run′ other′) (given-none (g .glyph ∷ [])) act) (room-puttable h) em q }
+  unfolding copies
+  info-decided h o em q = record { is = decided-one _ b f s v (λ run other. seen g .info) (λ run other. seen g .glyph) _ (λ x. Wrote (b .«have_separate_output») x (b .«out_len» .0) (seen g ∷ []) 1) h o
+    (λ run other l. info-writes _ _ (output-of b run other ∙ o) (seen g .glyph) (seen g .info))
+    (λ x run other run′ other′ act. act) (room-puttable h) em q }

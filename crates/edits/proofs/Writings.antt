@@ -1,17 +1,16 @@
 -- Calls that write, below their shells: from what the code tests and what its writes promise to the call on the account.
-use mathlib.Core.{Path._≡_, Path.refl, Path.sym, Path.ap, Path._∙_, Path.subst, Bool.Bool, Bool.true, Bool.false, Bool.cond, List.List, List.[], List._∷_, List._++_, List.reverse, List.reverse-append}
+use mathlib.Core.{Path._≡_, Path.refl, Path.sym, Path.ap, Path._∙_, Bool.Bool, Bool.true, Bool.false, Bool.cond, List.List, List.[], List._∷_, List._++_, List.reverse, List.reverse-append}
 use Prim.Native.Nat.{ℕ, suc, _+_, _-_, _≤_, _<_}
 use native.Mathlib.Omega.{arith}
 use borrow.Author.Tests.{le-ltb, lt-ltb, eq-eqb, ne-eqb}
 use lib.{Dec.eqb, Dec.ltb, ListN.length, ListN.take, ListN.getD, Seq.slice, Seq.slice-cons, Seq.slice-empty, Seq.take-suc}
-use Rattle.records.specs.{Phase, WrongPhase, OutOfRange, OverCapacity, Done, No, Limits, Counters.capacityOf, Counters.failed, Counters.grown, Glyphs.Glyph, Glyphs.Info, Glyphs.blank, Ranges.copies, Ranges.infos, View.glyphs, View.seen, View.zeroGlyph, View.wordsFrom}
-use Rattle.records.specs.declared.{Glyph.Glyph as Words}
-use Rattle.records.proofs.{View.length-glyphs, View.seen-number, Renaming.append-map}
-use Rattle.lists.specs.declared.{Buffer.Buffer, Reply.Reply, Room.the-variants.Fits, Room.the-variants.GivesUp, Room.the-variants.Over}
+use Rattle.records.specs.{WrongPhase, OutOfRange, Done, Limits, Counters.capacityOf, Counters.grown, Glyphs.Glyph, Glyphs.Info, Glyphs.blank, Ranges.copies, Ranges.infos, View.glyphs, View.zeroGlyph, View.wordsFrom}
+use Rattle.records.proofs.{View.length-glyphs, Renaming.append-map}
+use Rattle.lists.specs.declared.{Buffer.Buffer, Reply.Reply, Room.the-variants.Fits}
 use Rattle.lists.specs.{Account.Account, Account.outputPhase, Account.withGone, Account.hasOutput, Account.outLen, Account.failing, Account.sized, Contract.MeetsIn, Cursor.dropping, Moving.SyncOutput, Results.refused, Results.accepted, Results.refuse_when_else_, Results.needing, State.accountOf, State.Held, State.roomFor, States.reply, States.withLimitsOf}
-use Rattle.lists.proofs.{Accounts.output-clean, Accounts.output-of, Accounts.limits-of, Accounts.out-of, Accounts.rest-of, Accounts.held-lengths, Accounts.needing-fits, Accounts.needing-gives-up, Accounts.needing-over, Accounts.fits-within, Calls.in-refused, Calls.in-accepted, Calls.in-call}
-use Rattle.edits.specs.{Acts.Acts, Acts.Roomy, Acts.Writable, Acts.Parted, Acts.replacing, Acts.writesOne, Writing.written, Writing.model, Writing.writing, Writing.copyGlyph, Writing.outputGlyph, Writing.outputInfo}
-use Rattle.lists.proofs.Inner.{limits-side, failing-of, sized-of, held-limits, held-failed}
+use Rattle.lists.proofs.{Accounts.output-clean, Accounts.limits-of, Accounts.out-of, Accounts.rest-of, Accounts.needing-fits, Accounts.fits-within, Calls.in-accepted}
+use Rattle.edits.specs.{Acts.Roomy, Acts.writesOne, Writing.written, Writing.model, Writing.writing, Writing.copyGlyph, Writing.outputGlyph, Writing.outputInfo}
+use Rattle.lists.proofs.Inner.{limits-side, sized-of, held-limits}
 use Rattle.lists.proofs.Accounts.{out-fits}
 use Rattle.lists.proofs.Outputs.{output, shown-output}
 
@@ -37,15 +36,6 @@ module _ {b : Buffer} {run other : List ℕ} (v : SyncOutput b run other) (n : �
   limits-room : {t : _} → roomFor (capacityOf (length run)) (b .«out_len» .0 + n) (b .limits) ≡ t → roomFor (capacityOf (length run)) (b .«out_len» .0 + n) (before .state .limits) ≡ t
   limits-room h = ap (roomFor (capacityOf (length run)) (b .«out_len» .0 + n)) (limits-of b run other) ∙ h
 
-  pub writing-over : {r : Reply} → roomFor (capacityOf (length run)) (b .«out_len» .0 + n) (b .limits) ≡ Over → r ≡ reply b (No OverCapacity) → MeetsIn (λ capacity a. writing capacity n (x a) a) b run other r run other
-  writing-over h er = in-refused OverCapacity (writing-room ∙ needing-over _ _ before _ _ (limits-room h)) (v .held) er
-
-  pub writing-gives-up : {r : Reply} {l : Limits} {g : Buffer} → roomFor (capacityOf (length run)) (b .«out_len» .0 + n) (b .limits) ≡ GivesUp → l ≡ failed (b .limits) → g ≡ withLimitsOf l b → r ≡ reply g Done → MeetsIn (λ capacity a. writing capacity n (x a) a) b run other r run other
-  writing-gives-up h el eg er =
-      in-accepted (withLimitsOf (failed (b .limits)) b) (limits-side (failed (b .limits)) b) refl refl (held-failed b run other (v .held))
-      (writing-room ∙ (needing-gives-up _ _ before _ _ (limits-room h) ∙ ap accepted (sym (failing-of b run other))))
-      (er ∙ ap (λ (k : Buffer). reply k Done) (eg ∙ ap (λ (k : Limits). withLimitsOf k b) el))
-
   -- f is the buffer after it
   pub writing-done : {r : Reply} {f : Buffer} {run′ other′ : List ℕ} → roomFor (capacityOf (length run)) (b .«out_len» .0 + n) (b .limits) ≡ Fits → f .swapped ≡ b .swapped
       → wordsFrom (f .limits .allocated) run′ ≡ wordsFrom (f .limits .allocated) run → wordsFrom (f .limits .allocated) other′ ≡ wordsFrom (f .limits .allocated) other → Held f run other
@@ -67,21 +57,6 @@ module _ {b : Buffer} {run other : List ℕ} (v : SyncOutput b run other) where
   pub grown-roomy : (m n : ℕ) → roomFor (capacityOf (length run)) (b .«out_len» .0 + n) (b .limits) ≡ Fits → b .idx .0 + m ≤ b .len .0 → Roomy (withLimitsOf (grown (b .«out_len» .0 + n) (b .limits)) b) m n run other
   unfolding withLimitsOf grown
   grown-roomy m n h k = record { held = held-grown b run other (v .held) (b .«out_len» .0 + n) h; output = v .output; in-len = k; in-size = omega arith }
-
-  pub size-roomy : (m n : ℕ) {l : Limits} {g : Buffer} → roomFor (capacityOf (length run)) (b .«out_len» .0 + n) (b .limits) ≡ Fits → b .idx .0 + m ≤ b .len .0 → l ≡ grown (b .«out_len» .0 + n) (b .limits) → g ≡ withLimitsOf l b → Roomy g m n run other
-  size-roomy m n h k el eg = rw (eg, el) (grown-roomy m n h k)
-
-pub parted-writable : {g q : Buffer} {m n : ℕ} {run other other′ : List ℕ} → Roomy g m n run other → Parted g m n run other q other′ → length other′ ≡ length other → Writable q m n run other′
-parted-writable {g} {q} {m} {n} {run} {other} {other′} v p lo =
-    record {
-      roomy = record {
-        held = held-lengths q run other run other′ refl lo (p .acts .held);
-        output = ap (λ (k : Phase). outputPhase k) (p .places .3) ∙ v .output;
-        in-len = rw (p .places .0, p .places .1) (v .in-len);
-        in-size = rw (p .places .2, p .places .4) (v .in-size);
-      };
-      behind = λ s. rw (p .places .2, p .places .0) (p .behind s);
-    }
 
 pub dropping-none : (a : Account ℕ) → dropping 0 a ≡ a
 unfolding dropping withGone

@@ -22,17 +22,6 @@ pub record Roomy (b : Buffer) (num-in num-out : ℕ) (run other : List ℕ) : Ty
   pub in-len : b .idx .0 + num-in ≤ b .len .0
   pub in-size : b .«out_len» .0 + num-out ≤ b .limits .allocated
 
--- and they do not overtake the cursor
-pub record Writable (b : Buffer) (num-in num-out : ℕ) (run other : List ℕ) : Type 0 where
-  pub roomy : Roomy b num-in num-out run other
-  pub behind : b .«have_separate_output» ≡ false → b .«out_len» .0 + num-out ≤ b .idx .0 + num-in
-
--- the output may have moved to the other slice; the account does not see it
-pub record Parted (b : Buffer) (num-in num-out : ℕ) (run other : List ℕ) (r : Buffer) (other′ : List ℕ) : Type 0 where
-  pub acts : Acts (λ a. a) b run other r run other′
-  pub places : (r .idx ≡ b .idx) × (r .len ≡ b .len) × (r .«out_len» ≡ b .«out_len») × (r .phase ≡ b .phase) × (r .limits ≡ b .limits) × (r .level ≡ b .level)
-  pub behind : r .«have_separate_output» ≡ false → b .«out_len» .0 + num-out ≤ b .idx .0 + num-in
-
 -- glyph numbers that are given as numbers, then as bytes
 abbrev pub given : List ℕ → List ℕ → List ℕ
 given numbers bytes = numbers ++ wordsOf bytes

@@ -2,11 +2,11 @@
 use mathlib.Core.{Path._≡_, Bool.Bool, Bool.false, Bool.cond, Bool.not, Bool._&&_, Bool._||_, List.List, List.[], List._∷_}
 use Prim.Native.Nat.{ℕ, _+_, _-_, _≤_, _<_}
 use lib.{Dec.ltb, ListN.length, ListN.getD}
-use Rattle.records.specs.{Glyphs.Glyph, Ranges.copies, View.glyphs, View.seen, View.zeroGlyph}
+use Rattle.records.specs.{Limits, Glyphs.Glyph, Ranges.copies, View.glyphs, View.seen, View.zeroGlyph}
 use Rattle.records.specs.declared.{Glyph.Glyph as Words}
 use Rattle.lists.specs.declared.{Buffer.Buffer, Verdict.Verdict}
-use Rattle.lists.specs.{Account.Account, Copied.copied, Results.Result, State.roomFor, States.atPlaces, States.apartBuffer, Verdicts.bySize, Verdicts.settled, Verdicts.Decided}
-use Rattle.edits.specs.{Acts.given, Writing.outputInfo}
+use Rattle.lists.specs.{Account.Account, Account.readLevel, Copied.copied, Results.Result, State.roomFor, States.atPlaces, States.apartBuffer, Verdicts.bySize, Verdicts.Sided, Verdicts.settled, Verdicts.Decided}
+use Rattle.edits.specs.{MergeActs.Merges, Merging.clustersMerge, Writing.outputInfo, Writing.replaceGlyphs}
 
 -- whether o glyphs behind the output, in place of i of the input, would overtake the cursor: then the output moves to the other slice
 unfoldable pub overtakes : Buffer → ℕ → ℕ → Bool
@@ -19,6 +19,14 @@ lying x v = record { idx = v .idx; len = v .len; «out_len» = v .«out_len»; l
 -- the same, for an output that moves where glyphs are written
 abbrev pub moving : Bool → Verdict → Verdict
 moving x v = lying (cond (v .acts) x (v .apart)) v
+
+-- the same with other limits
+abbrev pub limited : Limits → Verdict → Verdict
+limited l v = record { idx = v .idx; len = v .len; «out_len» = v .«out_len»; limits = l; apart = v .apart; acts = v .acts; answer = v .answer }
+
+-- the same at a cost, where glyphs are written
+abbrev pub costing : (Limits → Limits) → Verdict → Verdict
+costing paid v = limited (cond (v .acts) (paid (v .limits)) (v .limits)) v
 
 -- the same where there is no glyph to be written
 abbrev pub sizeAlone : Verdict → Verdict
@@ -60,10 +68,34 @@ pub record Outputable (idx len outLen : ℕ) (f s : List ℕ) : Type 0 where
 pub record Outputs (separate apart own : Bool) (idx len outLen number : ℕ) (run other run′ other′ : List ℕ) : Type 0 where
   pub is : Wrote separate apart outLen (copies (modelAt separate idx len outLen run other .info) (cond own (modelAt separate idx len outLen run other .glyph) number ∷ [])) 1 run other run′ other′
 
+-- there is a glyph at the cursor, and num-in from there on, and room for num-out, of `given` numbers
+pub record Replaceable (idx len outLen num-in num-out given : ℕ) (f s : List ℕ) : Type 0 where
+  pub same : length (glyphs f) ≡ length (glyphs s)
+  pub len-in : len ≤ length (glyphs f)
+  pub fits : outLen + num-out ≤ length (glyphs f)
+  pub some : idx < len
+  pub in-len : idx + num-in ≤ len
+  pub enough : num-out ≤ given
+
+-- the inputs merged, which left run₁ and other₁, and then copies of the first stand behind the output
+pub record Replaces (separate apart merges : Bool) (level idx len outLen num-in num-out : ℕ) (gs : List ℕ) (run other run′ other′ : List ℕ) : Type 0 where
+  pub run₁ : List ℕ
+  pub other₁ : List ℕ
+  pub run-long : length run₁ ≡ length run
+  pub other-long : length other₁ ≡ length other
+  pub merged : Sided false (Merges separate merges level idx len outLen idx (idx + num-in)) run other run₁ other₁
+  pub first : Glyph ℕ
+  pub first-is : first ≡ getD (glyphs run₁) idx zeroGlyph
+  pub wrote : Wrote separate apart outLen (copies (first .info) gs) num-out run₁ other₁ run′ other′
+
 -- what is promised of a verdict on 0A, 0B and 0D, by whether its output moves
 pub record OutputDecided (call : ℕ → Account ℕ → Result ℕ) (own : Bool) (number : ℕ) (apart : Bool) (b : Buffer) (f s : List ℕ) (v : Verdict) : Type 0 where
   pub is : Decided call b f s (settled b v) (v .acts) (Outputable (b .idx .0) (b .len .0) (b .«out_len» .0) f s) (Outputs (b .«have_separate_output») apart own (b .idx .0) (b .len .0) (b .«out_len» .0) number)
 
 -- and of one on 0C
 pub record InfoDecided (g : Words) (b : Buffer) (f s : List ℕ) (v : Verdict) : Type 0 where
-  pub is : Decided (λ capacity a. outputInfo capacity (seen g .glyph) (seen g .info) a) b f s (settled b v) (v .acts) (Puttable (b .«out_len» .0) 1 f s) (Wrote (b .«have_separate_output») (v .apart) (b .«out_len» .0) (copies (seen g .info) (given (g .glyph ∷ []) [])) 1)
+  pub is : Decided (λ capacity a. outputInfo capacity (seen g .glyph) (seen g .info) a) b f s (settled b v) (v .acts) (Puttable (b .«out_len» .0) 1 f s) (Wrote (b .«have_separate_output») (v .apart) (b .«out_len» .0) (seen g ∷ []) 1)
+
+-- and of one on 0E
+pub record ReplaceDecided (num-in num-out : ℕ) (gs : List ℕ) (b : Buffer) (f s : List ℕ) (v : Verdict) : Type 0 where
+  pub is : Decided (λ capacity a. replaceGlyphs capacity num-in num-out gs a) b f s (settled b v) (v .acts) (Replaceable (b .idx .0) (b .len .0) (b .«out_len» .0) num-in num-out (length gs) f s) (Replaces (b .«have_separate_output») (v .apart) (clustersMerge (readLevel (b .level))) (b .level) (b .idx .0) (b .len .0) (b .«out_len» .0) num-in num-out gs)

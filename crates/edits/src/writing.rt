@@ -7,7 +7,6 @@ ghost use Rattle.records.specs.View.{glyphs, seen, zeroGlyph};
 ghost use Rattle.lists.specs.Contract.{Meets};
 ghost use Rattle.lists.specs.Verdicts.{Decided, settled};
 ghost use Rattle.edits.specs.Writing.{copyGlyph, outputGlyph, outputInfo};
-ghost use Rattle.edits.specs.Acts.{Acts, Roomy, Writable, Parted, replacing, given};
 ghost use Rattle.edits.specs.Puts.{overtakes, lying, Writes, Puttable, InfoDecided, OutputDecided, sizeAlone};
 use super::puts;
 use lists::Buffer;
@@ -17,51 +16,6 @@ use lists::state;
 use lists::verdicts;
 use records::Glyph;
 use records::Refusal;
-
-// The output moves to the other slice where it would overtake the cursor.
-pub(crate) fn make_room_for(
-    b: Buffer,
-    run: &[u32],
-    other: &mut [u32],
-    num_in: usize,
-    num_out: usize,
-) -> Buffer
-    requires { ⌜ Roomy b «num_in» «num_out» (now run) (now other) ⌝ }
-    ensures { λ r. ⌜ Parted b «num_in» «num_out» (now (run .entry)) (now (other .entry)) r (now (other .exit)) ⌝ }
-{
-    let out_len = b.out_len.0;
-    if b.have_separate_output {
-        return b;
-    }
-    if out_len + num_out <= b.idx.0 + num_in {
-        return b;
-    }
-    lists::copies::copy_across(run, other, 0, 0, out_len);
-    state::apart(b)
-}
-
-// Copies of g under the first num_out numbers go behind the output, in place of num_in glyphs of the input.
-pub(crate) fn write_copies(
-    b: Buffer,
-    run: &mut [u32],
-    other: &mut [u32],
-    g: Glyph,
-    numbers: &[u32],
-    bytes: &[u8],
-    num_in: usize,
-    num_out: usize,
-) -> Buffer
-    requires { ⌜ (Writable b «num_in» «num_out» (now run) (now other)) × («num_out» ≤ length (given (now numbers) (now bytes))) ⌝ }
-    ensures { λ r. ⌜ Acts (replacing (seen g .info) (take «num_out» (given (now (numbers .entry)) (now (bytes .entry)))) «num_in») b (now (run .entry)) (now (other .entry)) r (now (run .exit)) (now (other .exit)) ⌝ }
-{
-    let at = b.out_len.0;
-    if b.have_separate_output {
-        puts::put_copies(other, at, g, numbers, bytes, num_out);
-        return state::at_places(b, b.idx.0 + num_in, b.len.0, at + num_out);
-    }
-    puts::put_copies(run, at, g, numbers, bytes, num_out);
-    state::at_places(b, b.idx.0 + num_in, b.len.0, at + num_out)
-}
 
 // Whether num_out glyphs behind the output, in place of num_in of the input, would overtake the cursor.
 fn overtakes(b: Buffer, num_in: usize, num_out: usize) -> bool

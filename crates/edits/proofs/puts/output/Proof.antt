@@ -7,4 +7,4 @@ returns : tie.Need-returns
 returns c = search outputs-of
 
 pub output-spec : {M : Type 1} → statement M
-output-spec = tie.close (tie.spec (search needs) (search needs) (search needs) (search needs) (search needs) (search needs) (search needs) returns)
+output-spec = tie.close (tie.spec (search needs) (search needs) (search needs) (search needs) (search needs) (search needs) returns)

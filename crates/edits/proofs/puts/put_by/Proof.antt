@@ -10,4 +10,4 @@ returns-2 : tie.Need-returns-2
 returns-2 c = search sided-first
 
 pub put-by-spec : {M : Type 1} → statement M
-put-by-spec = tie.close (tie.spec (search needs) (search needs) (search needs) (search needs) (search needs) (search needs) (search needs) (search needs) returns (search needs) (search needs) returns-2)
+put-by-spec = tie.close (tie.spec (search needs) (search needs) (search needs) (search needs) returns (search needs) (search needs) returns-2)

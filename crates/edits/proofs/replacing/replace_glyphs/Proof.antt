@@ -1,24 +1,21 @@
-use Rattle.edits.proofs.GivenLaws.{given-none}
+use mathlib.Core.Logic.{⊎-elim}
+use Rattle.lists.proofs.Decisions.{kept-length}
+use Rattle.edits.proofs.ReplaceCalls.{replace-ready, replace-acted, replace-still, meets-numbers}
 use borrow.Author.Needs.{needs}
 use Rattle.edits.proofs.replacing.replace_glyphs.Statement.{statement}
 use Rattle.edits.proofs.replacing.replace_glyphs.Tie as tie
 
-slice-aggregate-replace-by : tie.Need-slice-aggregate-replace-by
-slice-aggregate-replace-by c = search needs
-
 replace-by-requires : tie.Need-replace-by-requires
-replace-by-requires c κs = search needs
+replace-by-requires c κs = replace-ready (c .before .before .before .before .before .replace-verdict .ensures) (c .before .before .before .before .if1 .taken)
 
 same-length : tie.Need-same-length
-same-length c = search needs
+same-length c = ⊎-elim (λ w. search (kept-length, needs)) (λ w. search (kept-length, needs)) (c .before .if1 .came)
 
 same-length-2 : tie.Need-same-length-2
-same-length-2 c = search needs
+same-length-2 c = ⊎-elim (λ w. search (kept-length, needs)) (λ w. search (kept-length, needs)) (c .before .if1 .came)
 
 returns : tie.Need-returns
-returns c = rw given-none at (c .before .before .before .before .replace-by .ensures)
+returns c = meets-numbers _ _ _ (⊎-elim (λ w. search (replace-acted (c .before .before .replace-verdict .ensures))) (λ w. search (replace-still (c .before .before .replace-verdict .ensures))) (c .before .if1 .came))
 
 pub replace-glyphs-spec : {M : Type 1} → statement M
-replace-glyphs-spec =
-    tie.close
-    (tie.spec slice-aggregate-replace-by replace-by-requires same-length same-length-2 returns)
+replace-glyphs-spec = tie.close (tie.spec (search needs) (search needs) (search needs) (search needs) replace-by-requires (search needs) same-length same-length-2 returns)
