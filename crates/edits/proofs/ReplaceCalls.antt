@@ -38,14 +38,16 @@ module _ {own x : Bool} {number : ℕ} {b : Buffer} {f s : List ℕ} {v : Verdic
 
 pub one-decided : {number m : ℕ} {b : Buffer} {f s : List ℕ} {v : Verdict} → sound b f s ≡ true → outputPhase (b .phase) ≡ true → b .idx .0 < b .len .0 → m ≡ capacityOf (length f) → Sized m b 1 1 true v → OutputDecided (λ capacity a. replaceGlyphs capacity 1 1 (number ∷ []) a) false number false b f s v
 unfolding wroteBuffer putBuffer withLimitsOf copies
-one-decided {number} {m} {b} h o k em q = record { is = decided-sized {i = 1} {acts = true} h
-  (record { then = _; law = λ run other l. one-writes (l .held) o k number ∙ writing-room (synced o l) 1 (putting 1 1 (copies ((modelOf b run other) .info) (number ∷ []))) })
-  (λ fits. record {
-    near = near-placed b _ _ _ _;
-    none = λ t. absurd (false≢true (sym t));
-    law = λ run other run′ other′ l lr lo act. in-call (one-writes (l .held) o k number) (put-meets 1 1 (copies ((modelOf b run other) .info) (number ∷ [])) (synced o l) (fits .law run other l) (omega arith) (omega arith) lr lo false (one-behind (l .held) o k number) (act .is));
-  })
-  (room-outputable h (omega arith)) em refl q }
+one-decided {number} {m} {b} h o k em q = record {
+  is = decided-sized {i = 1} {acts = true} h
+      (record { then = _; law = λ run other l. one-writes (l .held) o k number ∙ writing-room (synced o l) 1 (putting 1 1 (copies ((modelOf b run other) .info) (number ∷ []))) })
+      (λ fits. record {
+        near = near-placed b _ _ _ _;
+        none = λ t. absurd (false≢true (sym t));
+        law = λ run other run′ other′ l lr lo act. in-call (one-writes (l .held) o k number) (put-meets 1 1 (copies ((modelOf b run other) .info) (number ∷ [])) (synced o l) (fits .law run other l) (omega arith) (omega arith) lr lo false (one-behind (l .held) o k number) (act .is));
+      })
+      (room-outputable h (omega arith)) em refl q;
+}
 
 -- ---- what the merge of the inputs costs
 module _ (v : Verdict) (t : Bool) (n : ℕ) where
@@ -115,11 +117,13 @@ module _ {m n : ℕ} {gs : List ℕ} {b : Buffer} {f s : List ℕ} {v : Verdict}
             let in-len : b .idx .0 + m ≤ b .len .0 = omega (arith, held .idx-in) in
             let some : b .idx .0 < b .len .0 = omega arith in
             let many : n ≤ length gs = omega arith in
-            record { is = decided-writes _ b f s v m n _ (λ y. Replaces (b .«have_separate_output») y (clustersMerge (readLevel (b .level))) (b .level) (b .idx .0) (b .len .0) (b .«out_len» .0) m n gs) (mergeLimits (clustersMerge (readLevel (b .level))) m) h
-              (record { then = _; law = λ run other l. writes l ∙ writing-room (synced o l) n (λ a. replaced m n gs (sized (outLen a + n) a)) })
-              (λ fits. record { law = λ run other run′ other′ l lr lo act. in-call (writes l) (replace-meets m n gs (synced o l) (fits .law run other l) in-len some many lr lo act) })
-              (λ fits. let p = room-puttable h fits in record { same = p .same; len-in = omega arith; fits = p .fits; some = some; in-len = in-len; enough = many })
-              (ev ∙ (ap (λ (y : Bool). costing (mergeLimits y m) w) et ∙ ap (costing (mergeLimits (clustersMerge (readLevel (b .level))) m)) (rw ec at (q .is)))) }
+            record {
+              is = decided-writes _ b f s v m n _ (λ y. Replaces (b .«have_separate_output») y (clustersMerge (readLevel (b .level))) (b .level) (b .idx .0) (b .len .0) (b .«out_len» .0) m n gs) (mergeLimits (clustersMerge (readLevel (b .level))) m) h
+                  (record { then = _; law = λ run other l. writes l ∙ writing-room (synced o l) n (λ a. replaced m n gs (sized (outLen a + n) a)) })
+                  (λ fits. record { law = λ run other run′ other′ l lr lo act. in-call (writes l) (replace-meets m n gs (synced o l) (fits .law run other l) in-len some many lr lo act) })
+                  (λ fits. let p = room-puttable h fits in record { same = p .same; len-in = omega arith; fits = p .fits; some = some; in-len = in-len; enough = many })
+                  (ev ∙ (ap (λ (y : Bool). costing (mergeLimits y m) w) et ∙ ap (costing (mergeLimits (clustersMerge (readLevel (b .level))) m)) (rw ec at (q .is))));
+            }
           where
             writes : {run other : List ℕ} → Lying b f run other → replaceGlyphs (capacityOf (length run)) m n gs (accountOf b run other) ≡ writesReplaced m n gs (capacityOf (length run)) (accountOf b run other)
             writes {run} {other} l = replace-writes _ m n gs _ (output-of b run other ∙ o) (enough (l .held) m o k j) (le-ltb (length gs) n (omega arith))

@@ -180,14 +180,18 @@ module _ {own x : Bool} {number : ℕ} {b : Buffer} {f s : List ℕ} {v : Verdic
 
 module _ {b : Buffer} {f s : List ℕ} {v : Verdict} {m : ℕ} (h : sound b f s ≡ true) (o : outputPhase (b .phase) ≡ true) (em : m ≡ capacityOf (length f)) where
   pub copy-decided : {number : ℕ} → b .idx .0 < b .len .0 → Writes m b 0 1 true v → OutputDecided (λ capacity a. copyGlyph capacity a) true number (v .apart) b f s v
-  copy-decided {number} k q = record { is = decided-one _ b f s v (λ run other. (modelOf b run other) .info) (λ run other. (modelOf b run other) .glyph) _ (λ x. Outputs (b .«have_separate_output») x true (b .idx .0) (b .len .0) (b .«out_len» .0) number) h o
-    (λ run other l. copy-writes _ _ (output-of b run other ∙ o) (rest-long (l .held) o k) _ _ (rest-one (l .held) o k))
-    (λ x run other run′ other′ act. act .is) (room-outputable h (omega arith)) em q }
+  copy-decided {number} k q = record {
+    is = decided-one _ b f s v (λ run other. (modelOf b run other) .info) (λ run other. (modelOf b run other) .glyph) _ (λ x. Outputs (b .«have_separate_output») x true (b .idx .0) (b .len .0) (b .«out_len» .0) number) h o
+        (λ run other l. copy-writes _ _ (output-of b run other ∙ o) (rest-long (l .held) o k) _ _ (rest-one (l .held) o k))
+        (λ x run other run′ other′ act. act .is) (room-outputable h (omega arith)) em q;
+  }
 
   pub output-decided : {t : Bool} {number : ℕ} → t ≡ true → t ≡ ltb (b .idx .0) (b .len .0 + b .«out_len» .0) → Writes m b 0 1 t v → OutputDecided (λ capacity a. outputGlyph capacity number a) false number (v .apart) b f s v
-  output-decided {t} {number} et es q = record { is = decided-one _ b f s v (λ run other. (modelOf b run other) .info) (λ run other. number) _ (λ x. Outputs (b .«have_separate_output») x false (b .idx .0) (b .len .0) (b .«out_len» .0) number) h o
-    (λ run other l. glyph-writes _ _ (output-of b run other ∙ o) number _ (all-some (l .held) o (omega (arith, some))) (model-is (l .held) o some))
-    (λ x run other run′ other′ act. act .is) (room-outputable h some) em (rw et at q) }
+  output-decided {t} {number} et es q = record {
+    is = decided-one _ b f s v (λ run other. (modelOf b run other) .info) (λ run other. number) _ (λ x. Outputs (b .«have_separate_output») x false (b .idx .0) (b .len .0) (b .«out_len» .0) number) h o
+        (λ run other l. glyph-writes _ _ (output-of b run other ∙ o) number _ (all-some (l .held) o (omega (arith, some))) (model-is (l .held) o some))
+        (λ x run other run′ other′ act. act .is) (room-outputable h some) em (rw et at q);
+  }
     where
       some : b .idx .0 < b .len .0 + b .«out_len» .0
       some = ltb-true (b .idx .0) (b .len .0 + b .«out_len» .0) (sym es ∙ et)
@@ -231,6 +235,8 @@ module _ {b : Buffer} {f s : List ℕ} {v : Verdict} {g : Words} where
 
   pub info-decided : {m : ℕ} → sound b f s ≡ true → outputPhase (b .phase) ≡ true → m ≡ capacityOf (length f) → Writes m b 0 1 true v → InfoDecided g b f s v
   unfolding copies
-  info-decided h o em q = record { is = decided-one _ b f s v (λ run other. seen g .info) (λ run other. seen g .glyph) _ (λ x. Wrote (b .«have_separate_output») x (b .«out_len» .0) (seen g ∷ []) 1) h o
-    (λ run other l. info-writes _ _ (output-of b run other ∙ o) (seen g .glyph) (seen g .info))
-    (λ x run other run′ other′ act. act) (room-puttable h) em q }
+  info-decided h o em q = record {
+    is = decided-one _ b f s v (λ run other. seen g .info) (λ run other. seen g .glyph) _ (λ x. Wrote (b .«have_separate_output») x (b .«out_len» .0) (seen g ∷ []) 1) h o
+        (λ run other l. info-writes _ _ (output-of b run other ∙ o) (seen g .glyph) (seen g .info))
+        (λ x run other run′ other′ act. act) (room-puttable h) em q;
+  }

@@ -20,6 +20,7 @@ mod numbers;
 pub mod propagating;
 mod puts;
 pub mod relabeling;
+mod replace_acts;
 pub mod replacing;
 pub mod reversing;
 pub mod sorting;

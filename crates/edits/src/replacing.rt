@@ -12,6 +12,7 @@ use super::merge_acts;
 use super::merges::clusters_merge;
 use super::numbers::count;
 use super::puts;
+use super::replace_acts;
 use super::writing;
 use lists::Buffer;
 use lists::Reply;
@@ -58,7 +59,13 @@ fn replace_verdict(
             if count(numbers, bytes) < num_out {
                 return verdicts::refused(b, Refusal::BadOperand);
             }
-            let v = writing::write_verdict(b, records::glyphs::capacity(first), num_in, num_out, true);
+            let v = writing::write_verdict(
+                b,
+                records::glyphs::capacity(first),
+                num_in,
+                num_out,
+                true,
+            );
             return paying(v, clusters_merge(b.level), num_in);
         }
         return verdicts::refused(b, Refusal::WrongPhase);
@@ -80,7 +87,7 @@ pub fn replace_glyphs(
     let v = replace_verdict(b, first, second, num_in, num_out, numbers, &[]);
     if v.acts {
         let merges = clusters_merge(b.level);
-        puts::replace_by(
+        replace_acts::replace_by(
             first,
             second,
             b.swapped,
@@ -114,7 +121,7 @@ pub fn replace_glyphs_from_bytes(
     let v = replace_verdict(b, first, second, num_in, num_out, &[], bytes);
     if v.acts {
         let merges = clusters_merge(b.level);
-        puts::replace_by(
+        replace_acts::replace_by(
             first,
             second,
             b.swapped,

@@ -112,7 +112,15 @@ pub fn output_info(b: Buffer, first: &mut [u32], second: &mut [u32], g: Glyph) -
 {
     let v = info_verdict(b, first, second, g);
     if v.acts {
-        puts::put_by(first, second, b.swapped, b.have_separate_output, v.apart, b.out_len.0, g);
+        puts::put_by(
+            first,
+            second,
+            b.swapped,
+            b.have_separate_output,
+            v.apart,
+            b.out_len.0,
+            g,
+        );
     }
     verdicts::settled(b, v)
 }

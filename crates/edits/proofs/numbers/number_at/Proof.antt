@@ -4,17 +4,8 @@ use borrow.Author.Needs.{needs}
 use Rattle.edits.proofs.numbers.number_at.Statement.{statement}
 use Rattle.edits.proofs.numbers.number_at.Tie as tie
 
-mul-result : tie.Need-mul-result
-mul-result c = search needs
-
-shared-slice-read-result : tie.Need-shared-slice-read-result
-shared-slice-read-result c = search needs
-
 returns : tie.Need-returns
 returns c = search given-number
-
-sub-word : tie.Need-sub-word
-sub-word c = search needs
 
 mul-word : tie.Need-mul-word
 mul-word c = omega (arith, given-count (c .before .before .before .args .numbers .now) (c .before .before .before .args .bytes .now))
@@ -27,12 +18,4 @@ returns-2 c = search given-word
 
 pub number-at-spec : {M : Type 1} → statement M
 number-at-spec =
-    tie.close
-    (tie.spec
-    mul-result
-    shared-slice-read-result
-    returns
-    sub-word
-    mul-word
-    word-requires
-    returns-2)
+    tie.close (tie.spec (search needs) (search needs) returns (search needs) mul-word word-requires returns-2)

@@ -1,7 +1,7 @@
 use Rattle.edits.proofs.PutLaws.{wrote-apart, wrote-moved, wrote-within, moved-room}
 use borrow.Author.Needs.{needs}
-use Rattle.edits.proofs.puts.write_copies.Statement.{statement}
-use Rattle.edits.proofs.puts.write_copies.Tie as tie
+use Rattle.edits.proofs.replace_acts.write_copies.Statement.{statement}
+use Rattle.edits.proofs.replace_acts.write_copies.Tie as tie
 
 returns : tie.Need-returns
 returns c = search wrote-apart

@@ -1,7 +1,7 @@
 use Rattle.edits.proofs.PutLaws.{replace-first, replace-puttable, replaces-of}
 use borrow.Author.Needs.{needs}
-use Rattle.edits.proofs.puts.replace.Statement.{statement}
-use Rattle.edits.proofs.puts.replace.Tie as tie
+use Rattle.edits.proofs.replace_acts.replace.Statement.{statement}
+use Rattle.edits.proofs.replace_acts.replace.Tie as tie
 
 get-requires : tie.Need-get-requires
 get-requires c κs = search replace-first

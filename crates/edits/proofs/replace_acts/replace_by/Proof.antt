@@ -1,7 +1,7 @@
 use Rattle.lists.proofs.Decisions.{sided-first, sided-second}
 use borrow.Author.Needs.{needs}
-use Rattle.edits.proofs.puts.replace_by.Statement.{statement}
-use Rattle.edits.proofs.puts.replace_by.Tie as tie
+use Rattle.edits.proofs.replace_acts.replace_by.Statement.{statement}
+use Rattle.edits.proofs.replace_acts.replace_by.Tie as tie
 
 returns : tie.Need-returns
 returns c = search sided-second

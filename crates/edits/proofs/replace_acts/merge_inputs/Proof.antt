@@ -1,7 +1,7 @@
 use Rattle.edits.proofs.MergeDecisions.{merges-few}
 use borrow.Author.Needs.{needs}
-use Rattle.edits.proofs.puts.merge_inputs.Statement.{statement}
-use Rattle.edits.proofs.puts.merge_inputs.Tie as tie
+use Rattle.edits.proofs.replace_acts.merge_inputs.Statement.{statement}
+use Rattle.edits.proofs.replace_acts.merge_inputs.Tie as tie
 
 returns : tie.Need-returns
 returns c = search merges-few

@@ -6,8 +6,8 @@ use Rattle.records.proofs.View.{glyphs-fit}
 use Rattle.edits.specs.Acts.{given}
 use Rattle.edits.proofs.Acting.{Putting, putting-none, putting-more, putting-done}
 use borrow.Author.Needs.{needs}
-use Rattle.edits.proofs.puts.put_copies.Statement.{statement}
-use Rattle.edits.proofs.puts.put_copies.Tie as tie
+use Rattle.edits.proofs.replace_acts.put_copies.Statement.{statement}
+use Rattle.edits.proofs.replace_acts.put_copies.Tie as tie
 
 abbrev Inv-loop : tie.InvT-loop
 Inv-loop ws₀ at g numbers bytes n i₀ ws i = Putting ws₀ at (seen g .info) (given numbers bytes) n ws i
@@ -21,43 +21,12 @@ loop-holds c = search putting-none
 add-put : tie.Need-add-put Inv-loop μ-loop
 add-put c = omega (arith, glyphs-fit (c .before .before .loop .ws))
 
-number-at-requires : tie.Need-number-at-requires Inv-loop μ-loop
-number-at-requires c κs = search needs
-
-numbered-requires : tie.Need-numbered-requires Inv-loop μ-loop
-numbered-requires c κs = search needs
-
-put-requires : tie.Need-put-requires Inv-loop μ-loop
-put-requires c κs = search needs
-
-add-i : tie.Need-add-i Inv-loop μ-loop
-add-i c = search needs
-
-loop-less : tie.Need-loop-less Inv-loop μ-loop
-loop-less c = search needs
-
 loop-again : tie.Need-loop-again Inv-loop μ-loop
 loop-again c = search putting-more
-
-same-length : tie.Need-same-length Inv-loop μ-loop
-same-length c = search needs
 
 returns : tie.Need-returns Inv-loop μ-loop
 returns c = search putting-done
 
 pub put-copies-spec : {M : Type 1} → statement M
 put-copies-spec =
-    tie.close
-    (tie.spec
-    Inv-loop
-    μ-loop
-    loop-holds
-    add-put
-    number-at-requires
-    numbered-requires
-    put-requires
-    add-i
-    loop-less
-    loop-again
-    same-length
-    returns)
+    tie.close (tie.spec Inv-loop μ-loop loop-holds add-put (search needs) (search needs) (search needs) (search needs) (search needs) loop-again (search needs) returns)
