@@ -62,8 +62,3 @@ input-edit h gone len i j run a b c = ap (drop gone) (edit-take h i j len run b 
 -- an edit of the output in the same slice does not reach the input
 pub input-kept : (h : Info → Info) (gone len i j : ℕ) (run : List (Glyph ℕ)) → i ≤ j → j ≤ gone → gone ≤ len → slice gone len (edit i j h run) ≡ slice gone len run
 input-kept h gone len i j run a b c = ap (drop gone) (edit-take h i j len run a (omega arith)) ∙ edit-drop-behind h i j gone (take len run) a b
-
--- what is held goes by the first glyphs of the output
-pub held-out : (run out out′ : List (Glyph ℕ)) (gone idx len outLen : ℕ) (k : State) → take outLen out′ ≡ take outLen out → holds run out′ gone idx len outLen k ≡ holds run out gone idx len outLen k
-unfolding holds
-held-out run out out′ gone idx len outLen k e = rw e

@@ -64,9 +64,6 @@ module _ {b : Buffer} {m n : ℕ} {run other : List ℕ} (v : Roomy b m n run ot
       merged-replaced = acts-as (acts-then u lr lo w) (sym (acts-then u lr lo w .is) ∙ merged-is)
 
 -- ---- other limits leave the cursor where it is
-pub limits-first : (b : Buffer) (l : Limits) → b .idx .0 < b .len .0 → (withLimitsOf l b) .idx .0 < (withLimitsOf l b) .len .0
-unfolding withLimitsOf
-limits-first b l h = h
 
 -- ---- replace_glyphs
 module _ (capacity m n : ℕ) (gs : List ℕ) (a : Account ℕ) where

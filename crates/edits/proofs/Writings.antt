@@ -96,9 +96,6 @@ module _ {b : Buffer} {run other : List ℕ} (v : Held b run other) (o : outputP
   pub all-none : b .len .0 ≤ b .idx .0 → b .«out_len» .0 ≤ 0 → eqb (length ((accountOf b run other) .rest) + outLen (accountOf b run other)) 0 ≡ true
   all-none h k = eq-eqb (length ((accountOf b run other) .rest) + outLen (accountOf b run other)) 0 (omega (arith, all-length))
 
-  pub last-room : 0 < b .«out_len» .0 → (1 ≤ b .«out_len» .0) × (b .«out_len» .0 ≤ length (glyphs run)) × (b .«out_len» .0 ≤ length (glyphs other))
-  last-room h = (omega arith, out-fits v false, out-fits v true)
-
   pub done-last : 0 < b .«out_len» .0
       → (accountOf b run other) .done ≡ take (b .«out_len» .0 - 1) (cond (b .«have_separate_output») (glyphs other) (glyphs run)) ++ (getD (cond (b .«have_separate_output») (glyphs other) (glyphs run)) (b .«out_len» .0 - 1) zeroGlyph ∷ [])
   unfolding accountOf

@@ -2,12 +2,12 @@
 ghost use mathlib.Core.Path.{_≡_};
 ghost use mathlib.Core.Bool.{cond, true, false};
 ghost use Prim.Native.Nat.{_+_, _-_, _≤_, _<_, _^_};
-ghost use lib.ListN.{length, take, getD};
+ghost use lib.ListN.{length, getD};
 ghost use Rattle.records.specs.View.{glyphs, seen, zeroGlyph};
 ghost use Rattle.lists.specs.Contract.{Meets};
-ghost use Rattle.lists.specs.Verdicts.{Decided, settled};
+ghost use Rattle.lists.specs.Verdicts.{settled};
 ghost use Rattle.edits.specs.Writing.{copyGlyph, outputGlyph, outputInfo};
-ghost use Rattle.edits.specs.Puts.{overtakes, lying, Writes, Puttable, InfoDecided, OutputDecided, sizeAlone};
+ghost use Rattle.edits.specs.Puts.{overtakes, lying, Writes, InfoDecided, OutputDecided, sizeAlone};
 use super::puts;
 use lists::Buffer;
 use lists::Reply;
