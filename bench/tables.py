@@ -3,7 +3,7 @@ import os
 import re
 import statistics
 
-# ours grows faster where it grows by more than this factor over harfrust's growth; a fixed cost that fades is no growth
+# ours grows faster where it grows by more than this factor over harfrust's growth
 FASTER = 1.05
 
 
@@ -52,7 +52,7 @@ def growth(counts):
     for rows in zip(*(counts[n] for n in lengths)):
         sides = [[r[1] for r in rows], [r[2] for r in rows]]
         theirs, ours = (side[-1] / side[0] for side in sides)
-        if ours > FASTER * max(theirs, 1):
+        if ours > FASTER * theirs:
             faster.append(f'{rows[0][0]} ({ours:.2f}, harfrust {theirs:.2f})')
         print(f'{rows[0][0]:26}' + ''.join(''.join(f'{x:10.2f}' for x in side) + f'{side[-1] / side[0]:8.2f}' for side in sides))
     print(f'\nof ours grow faster than harfrust\'s: {"; ".join(faster) or "none"}')
