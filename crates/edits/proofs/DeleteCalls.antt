@@ -3,17 +3,17 @@ use mathlib.Core.{Path._≡_, Path.refl, Path.sym, Path.ap, Path._∙_, Bool.Boo
 use Prim.Native.Nat.{ℕ, _+_, _-_, _≤_, _<_}
 use native.Mathlib.Omega.{arith}
 use lib.{Dec.eqb, Dec.ltb, ListN.length, ListN.take, ListN.getD}
-use Rattle.records.specs.{Contradiction, WrongPhase, OutOfRange, Answer, Done, No, Limits, Glyphs.setCluster, Ranges.clusters, Ranges.edit, Ranges.tails, Ranges.is, View.glyphs, View.seen, View.zeroGlyph}
+use Rattle.records.specs.{Contradiction, WrongPhase, OutOfRange, Done, No, Limits, Glyphs.setCluster, Ranges.clusters, Ranges.edit, Ranges.tails, Ranges.is, View.glyphs, View.seen, View.zeroGlyph}
 use Rattle.records.specs.declared.{Glyph.Glyph as Words}
 use Rattle.records.proofs.View.{glyphs-same}
-use Rattle.lists.specs.declared.{Buffer.Buffer, Reply.Reply, Verdict.Verdict}
-use Rattle.lists.specs.{Account.Account, Account.readLevel, Account.outputPhase, Account.hasOutput, Cursor.dropping, Results.Result, Results.refused, Results.accepted, Results.refuse_when_else_, State.accountOf, State.goneOf, State.sound, States.reply, States.atPlaces, States.withLimitsOf, Contract.Meets, Verdicts.leaving, Verdicts.Leaves, Verdicts.settledBuffer, Verdicts.settled, Verdicts.Sided}
+use Rattle.lists.specs.declared.{Buffer.Buffer, Verdict.Verdict}
+use Rattle.lists.specs.{Account.Account, Account.readLevel, Account.outputPhase, Account.hasOutput, Cursor.dropping, Results.refused, Results.accepted, Results.refuse_when_else_, State.accountOf, State.goneOf, State.sound, States.reply, States.atPlaces, States.withLimitsOf, Verdicts.leaving, Verdicts.Leaves, Verdicts.settledBuffer, Verdicts.settled, Verdicts.Sided}
 use Rattle.lists.proofs.{Accounts.output-of, Accounts.sound-held}
-use Rattle.lists.proofs.Decisions.{acts-is, settles-unsound, settles-refused, meets-sided}
-use Rattle.edits.specs.{Acts.Acts, Deleting.deleted, Deleting.deleteGlyph, Merging.merge, Merging.clustersMerge, MergeActs.mergeLimits, MergeActs.Merges}
-use Rattle.edits.specs.Deletes.{Deletable, laid, DeleteRoom, NextFound, LastFound, Surviving, Inherits, Deletes, settledMerged, DecidedMerged}
+use Rattle.lists.proofs.Decisions.{acts-is, settles-refused, meets-sided}
+use Rattle.edits.specs.{Acts.Acts, Charges.leftWith, Charges.DecidedBy, Deleting.deleted, Deleting.deleteGlyph, Merging.merge, Merging.clustersMerge, MergeActs.mergeLimits, MergeActs.Merges}
+use Rattle.edits.specs.Deletes.{Deletable, laid, DeleteRoom, NextFound, LastFound, Surviving, Inherits, Deletes, mergedWith}
 use Rattle.edits.proofs.Writings.{rest-short, rest-long}
-use Rattle.edits.proofs.MergeCalls.{in-acts}
+use Rattle.edits.proofs.{Charging.by-none, Charging.by-unsound, MergeCalls.in-acts}
 use Rattle.edits.proofs.Deletions.{next-is, next-none, last-is, last-none, survives-next, survives-last, deletes-survived, deletes-inherited, deletes-alone, deletes, stays, next-mergeful, merge-deletes, inherit-none, inherit-apart, inherit-within}
 
 -- ---- what is found
@@ -111,29 +111,24 @@ module _ (a : Account ℕ) where
   unfolding deleteGlyph refuse_when_else_
   delete-accepts h k = rw (h, k)
 
--- no act
-merged-none : {call : ℕ → Account ℕ → Result ℕ} {b b′ : Buffer} {f s : List ℕ} {a : Answer} {v : Verdict} {Ask : Type 0} {Act : Bool → (run other run′ other′ : List ℕ) → Type 0} → Leaves b′ false a v → Meets call b f s (settled b v) f s → DecidedMerged call b f s v Ask Act
-unfolding settledMerged mergeLimits
-merged-none w m = record { still = λ k. m; asked = λ k. absurd (false≢true (sym (acts-is w) ∙ k)); acted = λ k. absurd (false≢true (sym (acts-is w) ∙ k)) }
-
-due-is : (b : Buffer) {b′ : Buffer} {v : Verdict} (merged : Bool) → b′ ≡ atPlaces (b .idx .0 + 1) (b .len .0) (b .«out_len» .0) b → Leaves b′ true Done v → settledMerged b v merged ≡ reply (atPlaces (b .idx .0 + 1) (b .len .0) (b .«out_len» .0) (withLimitsOf (mergeLimits merged 2 (b .limits)) b)) Done
-unfolding settledMerged settled settledBuffer atPlaces withLimitsOf
-due-is b merged eb w = ap (λ (x : Verdict). settledMerged b x merged) (w .is ∙ ap (λ (x : Buffer). leaving x true Done) eb)
+due-is : (b : Buffer) {b′ : Buffer} {v : Verdict} (merged : Bool) → b′ ≡ atPlaces (b .idx .0 + 1) (b .len .0) (b .«out_len» .0) b → Leaves b′ true Done v → settled b (mergedWith merged v) ≡ reply (atPlaces (b .idx .0 + 1) (b .len .0) (b .«out_len» .0) (withLimitsOf (mergeLimits merged 2 (b .limits)) b)) Done
+unfolding settled settledBuffer atPlaces withLimitsOf
+due-is b merged eb w = ap (λ (x : Verdict). settled b (mergedWith merged x)) (w .is ∙ ap (λ (x : Buffer). leaving x true Done) eb)
 
 abbrev DeleteDecided : Buffer → (f s : List ℕ) → Verdict → Type 0
-DeleteDecided b f s v = DecidedMerged (λ capacity a. deleteGlyph a) b f s v (DeleteRoom (b .idx .0) (b .len .0) (b .«out_len» .0) f s) (Deletes (b .«have_separate_output») (b .level) (b .idx .0) (b .len .0) (b .«out_len» .0))
+DeleteDecided b f s v = DecidedBy Bool mergedWith (λ capacity a. deleteGlyph a) b f s v (DeleteRoom (b .idx .0) (b .len .0) (b .«out_len» .0) f s) (Deletes (b .«have_separate_output») (b .level) (b .idx .0) (b .len .0) (b .«out_len» .0))
 
 module _ {b : Buffer} {f s : List ℕ} {v : Verdict} where
   pub delete-unsound : sound b f s ≡ false → Leaves b false (No Contradiction) v → DeleteDecided b f s v
-  delete-unsound h w = merged-none w (settles-unsound h w)
+  delete-unsound = by-unsound
 
   module _ (h : sound b f s ≡ true) where
     pub delete-phase : outputPhase (b .phase) ≡ false → Leaves b false (No WrongPhase) v → DeleteDecided b f s v
-    delete-phase o w = merged-none w (settles-refused h (record { law = λ run other l. delete-none _ (output-of b run other ∙ o) }) w)
+    delete-phase o w = by-none w (settles-refused h (record { law = λ run other l. delete-none _ (output-of b run other ∙ o) }) w)
 
     module _ (o : outputPhase (b .phase) ≡ true) where
       pub delete-ended : b .len .0 ≤ b .idx .0 → Leaves b false (No OutOfRange) v → DeleteDecided b f s v
-      delete-ended k w = merged-none w (settles-refused h (record { law = λ run other l. delete-outside _ (output-of b run other ∙ o) (rest-short (l .held) o k) }) w)
+      delete-ended k w = by-none w (settles-refused h (record { law = λ run other l. delete-outside _ (output-of b run other ∙ o) (rest-short (l .held) o k) }) w)
 
       pub delete-goes : {b′ : Buffer} → b .idx .0 < b .len .0 → b′ ≡ atPlaces (b .idx .0 + 1) (b .len .0) (b .«out_len» .0) b → Leaves b′ true Done v → DeleteDecided b f s v
       delete-goes k eb w = record {
@@ -144,14 +139,5 @@ module _ {b : Buffer} {f s : List ℕ} {v : Verdict} where
       }
 
 -- at the end of the call
-pub settled-due : (b : Buffer) (v : Verdict) (merged : Bool) {l : Limits} {r : Reply} → l ≡ mergeLimits merged 2 (v .limits)
-    → r ≡ settled b (record { idx = v .idx; len = v .len; «out_len» = v .«out_len»; limits = l; apart = v .apart; acts = v .acts; answer = v .answer }) → r ≡ settledMerged b v merged
-unfolding settledMerged
-settled-due b v merged el er = er ∙ ap (λ (l : Limits). settled b (record { idx = v .idx; len = v .len; «out_len» = v .«out_len»; limits = l; apart = v .apart; acts = v .acts; answer = v .answer })) el
-
-module _ {call : ℕ → Account ℕ → Result ℕ} {b : Buffer} {f s f″ s″ : List ℕ} {v : Verdict} {m : Bool} {r : Reply} {Ask : Type 0} {Act : Bool → (run other run′ other′ : List ℕ) → Type 0} (d : DecidedMerged call b f s v Ask Act) (er : r ≡ settledMerged b v m) where
-  pub merged-acted : {n : Bool} {f′ s′ : List ℕ} → m ≡ n → Sided (b .swapped) (Act n) f s f′ s′ → v .acts ≡ true → f″ ≡ f′ → s″ ≡ s′ → length f′ ≡ length f → length s′ ≡ length s → Meets call b f s r f″ s″
-  merged-acted {n} em act t ef es lf ls = rw (er, em, ef, es) (d .acted t n lf ls act)
-
-  pub merged-still : m ≡ false → v .acts ≡ false → f″ ≡ f → s″ ≡ s → Meets call b f s r f″ s″
-  merged-still em t ef es = rw (er, em, ef, es) (d .still t)
+pub due : (v : Verdict) (merged : Bool) {l : Limits} {w : Verdict} → l ≡ mergeLimits merged 2 (v .limits) → w ≡ leftWith l v → w ≡ mergedWith merged v
+due v merged el ew = rw (ew, el)

@@ -1,15 +1,14 @@
 -- Reversal of graphemes: the merges before it, and the call.
-use mathlib.Core.{Path._≡_, Path.refl, Path.sym, Path.ap, Path._∙_, Path.subst, Bool.true, Bool.false, List.List, List.[], List._∷_, List.map}
-use Prim.Native.Nat.{ℕ, _+_, _≤_, _<_}
+use mathlib.Core.{Path._≡_, Path.refl, Path.sym, Path.ap, Path._∙_, Path.subst, Bool.Bool, Bool.true, Bool.false, List.List, List.[], List._∷_, List.map}
+use Prim.Native.Nat.{ℕ, _+_}
 use native.Mathlib.Omega.{arith}
-use borrow.Author.Tests.{lt-ltb, le-ltb, eq-eqb, ne-eqb}
-use lib.{Dec.ltb, ListN.length}
-use Rattle.records.specs.{WrongPhase, BadOperand, Done, No, Glyphs.key, Ranges.infos, Ranges.is}
-use Rattle.lists.specs.declared.{Buffer.Buffer, Reply.Reply}
-use Rattle.lists.specs.{Account.readLevel, Account.Account, Account.withRest, Contract.MeetsIn, Results.refused, Results.accepted, Results.refuse_when_else_, State.stateOf, State.accountOf, State.Held, States.reply, States.withLimitsOf}
-use Rattle.lists.proofs.Calls.{in-refused}
-use Rattle.edits.specs.{Acts.Acts, WholeRun.notWhole, Merging.merge, Groups.sizes, Groups.continues, Groups.regrouped, Groups.mergedEach, Groups.reverseGraphemes, Wholes.WholeInput, Reversals.Rearranges}
-use Rattle.edits.proofs.{Chaining.acts-then, GroupLaws.graphemes-same, MergeEach.keys-merge, MergeEach.limits-whole, WholeInputs.not-not-whole, WholeInputs.whole-lengths, MergeCalls.in-acts, ReverseCalls.rearranged}
+use lib.{Dec.eqb, Dec.ltb, ListN.length}
+use Rattle.records.specs.{Phase, Limits, WrongPhase, BadOperand, Glyphs.key, Ranges.infos, Ranges.is}
+use Rattle.lists.specs.declared.{Buffer.Buffer, Verdict.Verdict}
+use Rattle.lists.specs.{Account.readLevel, Account.Account, Account.withRest, Results.refused, Results.accepted, Results.refuse_when_else_, State.accountOf}
+use Rattle.lists.proofs.Accounts.{level-of}
+use Rattle.edits.specs.{Charges.leftWith, Charges.DecidedBy, Charges.running, Charges.MergesEach, Charges.TakesKeyed, WholeRun.notWhole, Merging.merge, Groups.sizes, Groups.continues, Groups.regrouped, Groups.mergedEach, Groups.reverseGraphemes, Wholes.WholeInput, Wholes.RunRoom, Reversals.Rearranges, Reversals.TurnsGraphemes, Reversals.Regroups, Reversals.regroups}
+use Rattle.edits.proofs.{Chaining.acts-as, Chaining.acts-then, Charging.OnKeyed, Charging.charges-acts, Charging.settles-left, Charging.keyed-decided, GroupLaws.graphemes-same, MergeEach.keys-merge, MergeEach.whole-after, WholeInputs.not-not-whole, MergeCalls.in-acts, ReverseCalls.rearranged}
 
 -- ---- merges leave the keys of *rest* alone
 module _ (slot mask : ℕ) where
@@ -22,12 +21,34 @@ module _ (slot mask : ℕ) where
   each-sizes : (ns : List ℕ) (a : Account ℕ) → sizes (continues slot mask) (infos ((mergedEach true ns 0 a) .rest)) ≡ sizes (continues slot mask) (infos (a .rest))
   each-sizes ns a = graphemes-same slot mask 0 (infos ((mergedEach true ns 0 a) .rest)) (infos (a .rest)) (each-keys ns 0 a)
 
--- ---- the call, by its tests
-module _ (slot mask : ℕ) (a : Account ℕ) where
-  abbrev graphemes : List ℕ
-  graphemes = sizes (continues slot mask) (infos (a .rest))
+-- ---- the act, with merges and without
+in-phase : {phase : Phase} {n slot mask : ℕ} (b : Buffer) {run other run′ other′ : List ℕ} → b .phase ≡ phase → TurnsGraphemes phase n slot mask run other run′ other′ → Rearranges (λ k. regrouped (sizes (continues slot mask) (infos k)) k) (b .phase) n run other run′ other′
+in-phase {phase} {n} {slot} {mask} b {run} {other} {run′} {other′} e v = subst (λ (p : Phase). Rearranges (λ k. regrouped (sizes (continues slot mask) (infos k)) k) p n run other run′ other′) (sym e) (v .is)
 
-  pub graphemes-refused : notWhole a ≡ true → reverseGraphemes slot mask a ≡ refused WrongPhase
+module _ {phase : Phase} {slot mask level n : ℕ} {merging : Bool} {l : Limits} {run other : List ℕ} where
+  pub regroup-plain : {run′ other′ : List ℕ} → TurnsGraphemes phase n slot mask run other run′ other′ → merging ≡ false → length run′ ≡ length run → length other′ ≡ length other
+      → Regroups phase merging level n slot mask l l run other run′ other′
+  unfolding regroups
+  regroup-plain v h lr lo = record { is = record { acts = λ b w. rw h (rearranged (w .whole) lr lo (in-phase b (w .is) v)) } }
+
+  pub regroup-merged : {l′ : Limits} {run₁ other₁ run₂ other₂ : List ℕ} → TurnsGraphemes phase n slot mask run₁ other₁ run₂ other₂
+      → MergesEach true level n slot mask l l′ run other run₁ other₁ → merging ≡ true
+      → length run₁ ≡ length run → length other₁ ≡ length other → length run₂ ≡ length run₁ → length other₂ ≡ length other₁ → Regroups phase merging level n slot mask l l′ run other run₂ other₂
+  unfolding regroups
+  regroup-merged {l′} {run₁} {other₁} {run₂} {other₂} v c h lr lo lr′ lo′ = record {
+    is = record {
+      acts = λ b w.
+          let a : Account ℕ = accountOf (running level n l b) run other in
+          let ns : List ℕ = sizes (continues slot mask) (infos (a .rest)) in
+          let m : Account ℕ = mergedEach true ns 0 a in
+          let u = c .is .acts b (w .whole) in
+          rw h (acts-as (acts-then u lr lo (rearranged (whole-after b (w .whole) u lr lo) lr′ lo′ (in-phase b (w .is) v))) (ap (λ (k : List ℕ). withRest (regrouped k (m .rest)) m) (each-sizes slot mask ns a)));
+    };
+  }
+
+-- ---- the call
+module _ (slot mask : ℕ) (a : Account ℕ) where
+  graphemes-refused : notWhole a ≡ true → reverseGraphemes slot mask a ≡ refused WrongPhase
   unfolding reverseGraphemes refuse_when_else_
   graphemes-refused h = rw h
 
@@ -35,42 +56,21 @@ module _ (slot mask : ℕ) (a : Account ℕ) where
   unfolding reverseGraphemes refuse_when_else_
   graphemes-bad h k = rw (h, k)
 
-  module _ (h : notWhole a ≡ false) (k : ltb 1 slot ≡ false) where
-    graphemes-plain : is 1 (a .state .level) ≡ false → reverseGraphemes slot mask a ≡ accepted (withRest (regrouped graphemes (a .rest)) a)
-    unfolding reverseGraphemes refuse_when_else_
-    graphemes-plain t = rw (h, k, t)
+  graphemes-turned : notWhole a ≡ false → ltb 1 slot ≡ false → reverseGraphemes slot mask a ≡ accepted (regroups (is 1 (a .state .level)) slot mask a)
+  unfolding reverseGraphemes refuse_when_else_ regroups
+  graphemes-turned h k = rw (h, k)
 
-    graphemes-merged : is 1 (a .state .level) ≡ true → reverseGraphemes slot mask a ≡ accepted (withRest (regrouped graphemes ((mergedEach true graphemes 0 a) .rest)) (mergedEach true graphemes 0 a))
-    unfolding reverseGraphemes refuse_when_else_
-    graphemes-merged t = rw (h, k, t)
+module _ {slot : ℕ} (mask : ℕ) {b : Buffer} {merging : Bool} {level : ℕ} (el : level ≡ readLevel (b .level)) (em : merging ≡ eqb level 1) where
+  graphemes-on : OnKeyed Limits leftWith (λ capacity a. reverseGraphemes slot mask a) slot b (Regroups (b .phase) merging (b .level) (b .len .0) slot mask (b .limits))
+  graphemes-on = record {
+    whole = record { refuses = λ capacity a h. graphemes-refused slot mask a h };
+    refuses = λ capacity a h k. graphemes-bad slot mask a h k;
+    done = λ l run other run′ other′ w k lr lo c.
+        in-acts (charges-acts w (record { whole = w; is = refl }) (c .is))
+        (graphemes-turned slot mask _ (not-not-whole w) k
+        ∙ ap (λ (y : Bool). accepted (regroups y slot mask (accountOf b run other))) (ap (is 1) (level-of b run other) ∙ sym (em ∙ ap (is 1) el))) (settles-left b l);
+  }
 
--- other limits, and nothing else
-pub whole-limits : {b c : Buffer} {run other run′ other′ : List ℕ} → WholeInput b run other → c ≡ withLimitsOf (c .limits) b → Held c run other → length run′ ≡ length run → length other′ ≡ length other → WholeInput c run′ other′
-whole-limits {b} {c} {run} {other} w ec v lr lo =
-    whole-lengths lr lo (subst (λ (x : Buffer). WholeInput x run other) (sym ec) (limits-whole (c .limits) b (subst (λ (x : Buffer). Held x run other) ec v) w))
-
--- ---- what the call leaves
-module _ {b : Buffer} {run other : List ℕ} (w : WholeInput b run other) (slot mask : ℕ) where
-  pub in-graphemes-bad : {r : Reply} → 1 < slot → r ≡ reply b (No BadOperand) → MeetsIn (λ capacity a. reverseGraphemes slot mask a) b run other r run other
-  in-graphemes-bad o er = in-refused BadOperand (graphemes-bad slot mask (accountOf b run other) (not-not-whole w) (lt-ltb 1 slot o)) (w .held) er
-
-  module _ (o : slot ≤ 1) {r : Reply} where
-    pub in-graphemes-plain : {run′ other′ : List ℕ} {level : ℕ} → level ≡ readLevel (b .level) → (level ≡ 1 → ⊥) → length run′ ≡ length run → length other′ ≡ length other → Rearranges (λ l. regrouped (sizes (continues slot mask) (infos l)) l) (b .phase) (b .len .0) run other run′ other′ → r ≡ reply b Done
-        → MeetsIn (λ capacity a. reverseGraphemes slot mask a) b run other r run′ other′
-    unfolding accountOf stateOf
-    in-graphemes-plain el n lr lo v er =
-        in-acts (rearranged w lr lo v)
-        (graphemes-plain slot mask (accountOf b run other) (not-not-whole w) (le-ltb 1 slot o) (ne-eqb (readLevel (b .level)) 1 (rw (← el) n))) er
-
-    pub in-graphemes-merged : {c : Buffer} {run₁ other₁ run₂ other₂ : List ℕ} {level : ℕ} → level ≡ readLevel (b .level) → level ≡ 1
-        → Acts (λ a. mergedEach true (sizes (continues slot mask) (infos (a .rest))) 0 a) b run other c run₁ other₁ → c ≡ withLimitsOf (c .limits) b → length run₁ ≡ length run → length other₁ ≡ length other
-        → Rearranges (λ l. regrouped (sizes (continues slot mask) (infos l)) l) (c .phase) (c .len .0) run₁ other₁ run₂ other₂ → length run₂ ≡ length run₁ → length other₂ ≡ length other₁ → r ≡ reply c Done
-        → MeetsIn (λ capacity a. reverseGraphemes slot mask a) b run other r run₂ other₂
-    unfolding accountOf stateOf
-    in-graphemes-merged {c} {run₁} {other₁} {run₂} {other₂} el n u ec lr lo v lr′ lo′ er =
-        let a : Account ℕ = accountOf b run other in
-        let ns : List ℕ = sizes (continues slot mask) (infos (a .rest)) in
-        let m : Account ℕ = mergedEach true ns 0 a in
-        in-acts (acts-then u lr lo (rearranged (whole-limits w ec (u .held) lr lo) lr′ lo′ v))
-        (graphemes-merged slot mask a (not-not-whole w) (le-ltb 1 slot o) (eq-eqb (readLevel (b .level)) 1 (sym el ∙ n))
-        ∙ ap (λ (k : List ℕ). accepted (withRest (regrouped k (m .rest)) m)) (sym (each-sizes slot mask ns a))) er
+  pub graphemes-decided : {f s : List ℕ} {v : Verdict} → TakesKeyed slot b f s v
+      → DecidedBy Limits leftWith (λ capacity a. reverseGraphemes slot mask a) b f s v (RunRoom (b .len .0) f s) (Regroups (b .phase) merging (b .level) (b .len .0) slot mask (b .limits))
+  graphemes-decided w = keyed-decided graphemes-on w

@@ -6,7 +6,7 @@ use native.Mathlib.Omega.{arith}
 use lib.{ListN.length, ListN.take, ListN.drop, ListN.getD, Seq.slice}
 use Rattle.records.specs.{Phase, Glyphs.Info, Glyphs.key, Ranges.infos, Ranges.clusters, Ranges.heads, Ranges.is, Ranges.isnt, View.glyphs, View.placements}
 use Rattle.lists.specs.{State.shown}
-use Rattle.edits.specs.{Groups.sizes, Groups.sameCluster, Groups.continues, Groups.regrouped, Wholes.RunOf, Reversals.Turns, Reversals.Rearranges}
+use Rattle.edits.specs.{Groups.sizes, Groups.sameCluster, Groups.continues, Groups.regrouped, Wholes.RunOf, Reversals.Turns, Reversals.Rearranges, Reversals.TurnsGraphemes}
 use Rattle.edits.proofs.GroupLaws.{Group, cluster-group, grapheme-group}
 use Rattle.edits.proofs.Regroups.{Regrouping, regrouping-none, regrouping-more, regrouping-done}
 use Rattle.edits.proofs.ReverseCalls.{shown-length, turns-rearrange}
@@ -41,7 +41,7 @@ module _ {p : Info → Info → Bool} {phase : Phase} {n : ℕ} where
         let order : i ≤ e = omega (arith, g .after) in
         let t = turns-rearrange (v .whole) order (g .inside) turns in
         record {
-          whole = run-lengths lr lo (v .whole);
+          whole = run-lengths (v .whole) lr lo;
           groups = regrouping-more (v .groups) (omega (arith, g .after)) (omega (arith, g .inside, v .first)) (g .is) (t .is);
           first = v .first;
           run-behind = t .run-behind ∙ v .run-behind;
@@ -60,10 +60,10 @@ module _ {p : Info → Info → Bool} {phase : Phase} {n : ℕ} where
 -- ---- where the group at place i ends
 module _ {p : Info → Info → Bool} {phase : Phase} {n : ℕ} {run₀ other₀ run other : List ℕ} {i : ℕ} (v : GroupTurning p phase n run₀ other₀ run other i) {e : ℕ} (o : i < n) where
   pub at-cluster : e ≡ i + 1 + heads (is (getD (clusters (glyphs run)) i 4294967295)) (slice (i + 1) n (clusters (glyphs run))) → Group sameCluster (shown phase run other) n i e
-  at-cluster ee = cluster-group phase run other (v .whole .clean) (v .whole .fits) o ee
+  at-cluster ee = cluster-group phase run other (v .whole .clean) (v .whole .room .fits) o ee
 
   pub at-grapheme : (slot mask : ℕ) → e ≡ i + 1 + heads (isnt 0) (slice (i + 1) n (map (key slot mask) (infos (glyphs run)))) → Group (continues slot mask) (shown phase run other) n i e
-  at-grapheme slot mask ee = grapheme-group phase run other (v .whole .clean) (v .whole .fits) slot mask o ee
+  at-grapheme slot mask ee = grapheme-group phase run other (v .whole .clean) (v .whole .room .fits) slot mask o ee
 
 -- what the turn of a group asks for
 module _ {p : Info → Info → Bool} {phase : Phase} {n : ℕ} {run₀ other₀ run other : List ℕ} {i : ℕ} (v : GroupTurning p phase n run₀ other₀ run other i) {e : ℕ} (g : Group p (shown phase run other) n i e) where
@@ -79,3 +79,7 @@ module _ {p : Info → Info → Bool} {phase : Phase} {n : ℕ} {run₀ other₀
 -- the groups of one cluster
 pub clusters-done : {phase : Phase} {n i : ℕ} {run₀ other₀ run other run′ other′ : List ℕ} → GroupTurning sameCluster phase n run₀ other₀ run other i → n ≤ i → Turns phase 0 n run other run′ other′ → Rearranges (λ l. regrouped (sizes sameCluster (infos l)) l) phase n run₀ other₀ run′ other′
 clusters-done v o t = groups-done v o t
+
+-- and the graphemes
+pub graphemes-done : (slot mask : ℕ) {phase : Phase} {n i : ℕ} {run₀ other₀ run other run′ other′ : List ℕ} → GroupTurning (continues slot mask) phase n run₀ other₀ run other i → n ≤ i → Turns phase 0 n run other run′ other′ → TurnsGraphemes phase n slot mask run₀ other₀ run′ other′
+graphemes-done slot mask v o t = record { is = groups-done v o t }

@@ -2,6 +2,7 @@ pub mod Acting
 pub mod BoundLaws
 pub mod Bridge
 pub mod Chaining
+pub mod Charging
 pub mod DeleteCalls
 pub mod Deletions
 pub mod Examples

@@ -1,6 +1,7 @@
 -- Merges by places, and what 11 and 13 come to, outcome by outcome.
 use mathlib.Core.{Path._≡_, Path.refl, Path.sym, Path.ap, Path._∙_, Path.subst, Bool.Bool, Bool.true, Bool.false, Bool.cond, Bool._||_, Bool.false≢true, List.List}
 use Prim.Native.Nat.{ℕ, _-_, _≤_, _<_}
+use native.Mathlib.Nat.{sub-zero}
 use native.Mathlib.Omega.{arith}
 use borrow.Author.Tests.{le-leb, lt-leb, le-ltb, lt-ltb, ltb-false}
 use lib.{Dec.ltb, ListN.length, ListN.drop, Seq.slice}
@@ -10,9 +11,9 @@ use Rattle.lists.specs.declared.{Buffer.Buffer, Verdict.Verdict}
 use Rattle.lists.specs.{Account.Account, Account.readLevel, Account.spoiledPhase, Account.isSpoiled, Results.refused, Results.accepted, Results.refuse_when_else_, State.goneOf, State.accountOf, State.sound, State.Soundness, States.withLimitsOf, Verdicts.Leaves, Verdicts.settled, Verdicts.Sided, Verdicts.Decided}
 use Rattle.lists.proofs.{Accounts.spoiled-of, Accounts.level-of, Accounts.gone-of, Accounts.sound-held}
 use Rattle.lists.proofs.Decisions.{near-limits, leaves-as, decided-unsound, decided-refused, decided-does}
-use Rattle.edits.specs.{Acts.Acts, Acts.Mergeful, Flags.interior, Flags.sought, Merging.merge, Merging.merged, Merging.mergeInput, Merging.outsideInput, Merging.clustersMerge, Merging.graphemesMerge, Plans.WrittenApart, Plans.WrittenWithin}
+use Rattle.edits.specs.{Acts.Acts, Acts.Mergeful, Charges.running, Charges.MergesRun, Flags.interior, Flags.sought, Merging.merge, Merging.merged, Merging.mergeInput, Merging.outsideInput, Merging.clustersMerge, Merging.graphemesMerge, Plans.WrittenApart, Plans.WrittenWithin}
 use Rattle.edits.specs.MergeActs.{mergeLimits, liesApart, MergeRoom, Merges, MergesInput}
-use Rattle.edits.proofs.MergeLaws.{merged-apart}
+use Rattle.edits.proofs.{Chaining.acts-as, MergeLaws.merged-apart, WholeInputs.whole-gone}
 use Rattle.edits.proofs.MergeCalls.{acts-paid, acts-kept, in-acts, from-gone, ready-apart, apart-is, within-is, within-behind, width, flag-is, flag-behind, outside-of, in-mergeful, neither-left}
 
 -- ---- what a merge costs
@@ -105,6 +106,20 @@ module _ (b : Buffer) {apart merges : Bool} {s e : ℕ} {run other run′ other�
 
   pub merges-other : liesApart b ≡ false → other′ ≡ other
   merges-other h = w .first refl .apart-only (ea ∙ h)
+
+-- of a whole run
+pub run-merges : {merges : Bool} {level n s e : ℕ} (l : Limits) {l′ : Limits} {run other run′ other′ : List ℕ} → Sided false (Merges false merges level 0 n 0 s e) run other run′ other′ → MergeRoom n 0 s e run other → l′ ≡ mergeLimits merges (e - s) l
+    → MergesRun merges level n s e l l′ run other run′ other′
+unfolding withLimitsOf
+run-merges {merges} {level} {n} {s} {e} l {l′} {run} {other} {run′} {other′} w m el = record {
+  is = record {
+    acts = λ b v.
+        let y = running level n l b in
+        let gone : goneOf y ≡ 0 = whole-gone v in
+        let u : Acts (merge merges (s - goneOf y) (e - goneOf y)) y run other (withLimitsOf (mergeLimits merges (e - s) l) y) run′ other′ = w .first refl .acts y (rw (v .plain)) (record { held = v .held; whole = v .clean; start = omega (arith, gone); order = m .order; end = m .end }) in
+        rw el (acts-as u (ap (λ (k : ℕ). merge merges (s - k) (e - k) (accountOf y run other)) gone ∙ rw (sub-zero s, sub-zero e)));
+  };
+}
 
 pub clusters-acts : (b : Buffer) (merges : Bool) (i j : ℕ) {r : Buffer} {run other run′ other′ : List ℕ} → merges ≡ clustersMerge (readLevel (b .level)) → Acts (merge merges i j) b run other r run′ other′ → Acts (merge (clustersMerge (readLevel (b .level))) i j) b run other r run′ other′
 clusters-acts b merges i j {r} {run} {other} {run′} {other′} em u = subst (λ (x : Bool). Acts (merge x i j) b run other r run′ other′) em u

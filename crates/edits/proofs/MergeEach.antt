@@ -1,16 +1,15 @@
 -- A merge of each grapheme: no merge changes a key, so the groups of the rest stay.
-use mathlib.Core.{Path._≡_, Path.refl, Path.ap, Path.ap₂, Path.sym, Path._∙_, Path.subst, Bool.Bool, Bool.true, Bool.false, Bool.cond, Bool._&&_, Bool._||_, List.List, List.[], List._∷_, List._++_, List.map}
+use mathlib.Core.{Path._≡_, Path.refl, Path.ap, Path.ap₂, Path.sym, Path._∙_, Bool.Bool, Bool.true, Bool.false, Bool.cond, Bool._&&_, Bool._||_, List.List, List.[], List._∷_, List._++_, List.map}
 use Prim.Native.Nat.{ℕ, _+_, _-_, _*_, _/_, _%_, _≤_, _<_}
-use native.Mathlib.Nat.{sub-zero}
 use native.Mathlib.Omega.{arith}
-use borrow.Author.Tests.{lt-ltb, le-ltb}
 use lib.{Dec.eqb, Dec.ltb, ListN.take, ListN.drop, ListN.length, Seq.slice, Seq.drop-append-seam}
-use Rattle.records.specs.{Limits, WrongPhase, BadOperand, Done, No, Glyphs.Glyph, Glyphs.Info, Glyphs.withMask, Glyphs.withCluster, Glyphs.setCluster, Glyphs.flagged, Glyphs.flaggedUnless, Glyphs.key, Ranges.infos, Ranges.clusters, Ranges.edit, Ranges.is, Ranges.isnt, Ranges.least, Ranges.first, Ranges.last, Ranges.heads, Ranges.tails, View.glyphs}
-use Rattle.lists.specs.declared.{Buffer.Buffer, Reply.Reply}
-use Rattle.lists.specs.{Account.readLevel, Account.Account, Account.input, Account.withInput, Account.withDone, Account.paying, Account.limiting, Contract.MeetsIn, Results.refused, Results.accepted, Results.refuse_when_else_, State.shown, State.goneOf, State.accountOf, State.Held, States.reply, States.withLimitsOf}
-use Rattle.lists.proofs.{Accounts.level-of, Calls.in-refused, Infos.words-drop, Infos.words-edit}
-use Rattle.edits.specs.{Acts.Acts, Acts.Mergeful, Flags.interior, Flags.sought, Flags.flagInterior, Groups.sizes, Groups.continues, Groups.mergedEach, Groups.formClusters, Merging.merge, Merging.merged, Merging.mergeStart, Merging.mergeEnd, Merging.graphemesMerge, WholeRun.notWhole, Wholes.WholeInput}
-use Rattle.edits.proofs.{Chaining.acts-as, Chaining.acts-then, MergeCalls.in-acts, MergeLaws.merge-order, WholeInputs.whole-gone, WholeInputs.whole-lengths, WholeInputs.account-whole, WholeInputs.not-not-whole, GroupLaws.Group, GroupLaws.no-group, GroupLaws.grapheme-group, GroupLaws.graphemes-same}
+use Rattle.records.specs.{Limits, Plain, WrongPhase, BadOperand, Glyphs.Glyph, Glyphs.Info, Glyphs.withMask, Glyphs.withCluster, Glyphs.setCluster, Glyphs.flagged, Glyphs.flaggedUnless, Glyphs.key, Ranges.infos, Ranges.clusters, Ranges.edit, Ranges.is, Ranges.isnt, Ranges.least, Ranges.first, Ranges.last, Ranges.heads, Ranges.tails, View.glyphs}
+use Rattle.records.proofs.View.{glyphs-same}
+use Rattle.lists.specs.declared.{Buffer.Buffer, Verdict.Verdict}
+use Rattle.lists.specs.{Account.readLevel, Account.Account, Account.input, Account.withInput, Account.withDone, Account.paying, Account.limiting, Results.refused, Results.accepted, Results.refuse_when_else_, State.shown, State.accountOf}
+use Rattle.lists.proofs.{Accounts.level-of, Infos.words-drop, Infos.words-edit}
+use Rattle.edits.specs.{Acts.Acts, Charges.leftWith, Charges.DecidedBy, Charges.running, Charges.MergesRun, Charges.MergesEach, Charges.TakesKeyed, Flags.interior, Flags.sought, Flags.flagInterior, Groups.sizes, Groups.continues, Groups.mergedEach, Groups.formClusters, Merging.merge, Merging.merged, Merging.mergeStart, Merging.mergeEnd, Merging.graphemesMerge, MergeActs.MergeRoom, WholeRun.notWhole, Wholes.WholeInput, Wholes.RunRoom}
+use Rattle.edits.proofs.{Chaining.acts-as, Chaining.acts-then, Charging.OnKeyed, Charging.charges-acts, Charging.settles-left, Charging.keyed-decided, MergeCalls.in-acts, MergeLaws.merge-order, WholeCalls.whole-room, WholeCalls.room-lengths, WholeInputs.whole-lengths, WholeInputs.account-whole, WholeInputs.not-not-whole, GroupLaws.Group, GroupLaws.no-group, GroupLaws.grapheme-group, GroupLaws.graphemes-same}
 
 -- ---- the changes that leave a key alone
 module _ (slot mask : ℕ) where
@@ -89,15 +88,19 @@ module _ {G : Type 0} (slot mask : ℕ) where
       pick false false false = keys-flagged 3 s e a o
 
 -- ---- the loop: graphemes before s are merged, those from s on are still to be
-pub record Each (merges : Bool) (slot mask : ℕ) (b : Buffer) (run other : List ℕ) (f : Buffer) (run′ other′ : List ℕ) (s : ℕ) : Type 0 where
-  pub whole : WholeInput f run′ other′
-  pub same-run : length run′ ≡ length run
-  pub same-other : length other′ ≡ length other
-  pub high : s ≤ b .len .0
-  pub limits : f ≡ withLimitsOf (f .limits) b
-  pub acts : Acts (λ a. accountOf f run′ other′) b run other f run′ other′
-  pub is : mergedEach merges (sizes (continues slot mask) (drop s (infos ((accountOf f run′ other′) .rest)))) s (accountOf f run′ other′)
-      ≡ mergedEach merges (sizes (continues slot mask) (infos ((accountOf b run other) .rest))) 0 (accountOf b run other)
+pub record Each (merges : Bool) (slot mask level n : ℕ) (l₀ : Limits) (run₀ other₀ : List ℕ) (l : Limits) (run other : List ℕ) (s : ℕ) (b : Buffer) : Type 0 where
+  pub whole : WholeInput (running level n l b) run other
+  pub acts : Acts (λ a. accountOf (running level n l b) run other) (running level n l₀ b) run₀ other₀ (running level n l b) run other
+  pub is : mergedEach merges (sizes (continues slot mask) (drop s (infos ((accountOf (running level n l b) run other) .rest)))) s (accountOf (running level n l b) run other)
+      ≡ mergedEach merges (sizes (continues slot mask) (infos ((accountOf (running level n l₀ b) run₀ other₀) .rest))) 0 (accountOf (running level n l₀ b) run₀ other₀)
+
+-- on every buffer whose run lies here
+pub record EachOf (merges : Bool) (slot mask level n : ℕ) (l₀ : Limits) (run₀ other₀ : List ℕ) (l : Limits) (run other : List ℕ) (s : ℕ) : Type 0 where
+  pub room : RunRoom n run other
+  pub same-run : length run ≡ length run₀
+  pub same-other : length other ≡ length other₀
+  pub high : s ≤ n
+  pub each : (b : Buffer) → WholeInput (running level n l₀ b) run₀ other₀ → Each merges slot mask level n l₀ run₀ other₀ l run other s b
 
 one-merge : (merges : Bool) (n : ℕ) (ns : List ℕ) (s : ℕ) (x : Account ℕ) → mergedEach merges (n ∷ ns) s x ≡ mergedEach merges ns (s + n) (merge merges s (s + n) x)
 unfolding mergedEach
@@ -107,100 +110,111 @@ no-merge : (merges : Bool) (s : ℕ) (x : Account ℕ) → mergedEach merges [] 
 unfolding mergedEach
 no-merge merges s x = refl
 
-limits-same : (b : Buffer) → b ≡ withLimitsOf (b .limits) b
-unfolding withLimitsOf
-limits-same b = refl
+-- after a step that leaves the run where it is
+pub whole-after : {level n : ℕ} {l l′ : Limits} (b : Buffer) {h : Account ℕ → Account ℕ} {run other run′ other′ : List ℕ} → WholeInput (running level n l b) run other → Acts h (running level n l b) run other (running level n l′ b) run′ other′
+    → length run′ ≡ length run → length other′ ≡ length other → WholeInput (running level n l′ b) run′ other′
+whole-after b w u lr lo = whole-lengths lr lo (record { held = u .held; plain = w .plain; clean = w .clean; start = refl })
 
-limits-again : (l m : Limits) (b : Buffer) → withLimitsOf l (withLimitsOf m b) ≡ withLimitsOf l b
-unfolding withLimitsOf
-limits-again l m b = refl
+module _ {merges : Bool} {slot mask level n : ℕ} {l₀ l : Limits} {run₀ other₀ run other : List ℕ} {s : ℕ} {b : Buffer} (v : Each merges slot mask level n l₀ run₀ other₀ l run other s b) where
+  rest-is : (accountOf (running level n l b) run other) .rest ≡ take n (shown (b .phase) run other)
+  rest-is = ap (λ (a : Account ℕ). a .rest) (account-whole (v .whole))
 
-module _ (l : Limits) (b : Buffer) where
-  limits-len : (withLimitsOf l b) .len .0 ≡ b .len .0
-  unfolding withLimitsOf
-  limits-len = refl
+  fits : n ≤ length (glyphs run)
+  fits = whole-room (v .whole) .fits
 
-  pub limits-whole : {run other : List ℕ} → Held (withLimitsOf l b) run other → WholeInput b run other → WholeInput (withLimitsOf l b) run other
-  unfolding withLimitsOf
-  limits-whole v w = record { held = v; plain = w .plain; clean = w .clean; start = w .start }
+  one-more : {e : ℕ} {l′ : Limits} {run′ other′ : List ℕ} → length run ≡ length run₀ → length other ≡ length other₀ → length run′ ≡ length run → length other′ ≡ length other → Group (continues slot mask) (shown (b .phase) run other) n s e
+      → Acts (merge merges s e) (running level n l b) run other (running level n l′ b) run′ other′ → Each merges slot mask level n l₀ run₀ other₀ l′ run′ other′ e b
+  one-more {e} {l′} {run′} {other′} mr mo lr lo g u =
+      let P : Info → Info → Bool = continues slot mask in
+      let a : Account ℕ = accountOf (running level n l b) run other in
+      let a′ : Account ℕ = accountOf (running level n l′ b) run′ other′ in
+      let after : s < e = g .after in
+      let order : s ≤ e = omega arith in
+      let on : s + (e - s) ≡ e = omega arith in
+      let groups : sizes P (drop s (infos (a .rest))) ≡ (e - s) ∷ sizes P (drop e (infos (a .rest))) = rw rest-is (g .is) in
+      let later : sizes P (drop e (infos (a′ .rest))) ≡ sizes P (drop e (infos (a .rest))) =
+      graphemes-same slot mask e (infos (a′ .rest)) (infos (a .rest)) (ap (λ (y : Account ℕ). map (key slot mask) (infos (y .rest))) (u .is) ∙ keys-merge slot mask merges s e a order) in
+      let turned : mergedEach merges (sizes P (drop s (infos (a .rest)))) s a ≡ mergedEach merges (sizes P (drop e (infos (a .rest)))) (s + (e - s)) (merge merges s (s + (e - s)) a) =
+      ap (λ (ns : List ℕ). mergedEach merges ns s a) groups ∙ one-merge merges (e - s) (sizes P (drop e (infos (a .rest)))) s a in
+      record {
+        whole = whole-after b (v .whole) u lr lo;
+        acts = acts-as (acts-then (v .acts) mr mo u) (sym (u .is));
+        is = ap₂ (λ (ns : List ℕ) (y : Account ℕ). mergedEach merges ns e y) later (u .is)
+            ∙ (ap (λ (m : ℕ). mergedEach merges (sizes P (drop e (infos (a .rest)))) m (merge merges s m a)) (sym on)
+            ∙ (sym turned ∙ v .is));
+      }
 
-module _ {merges : Bool} {slot mask : ℕ} {b : Buffer} {run other : List ℕ} where
-  pub each-none : WholeInput b run other → Each merges slot mask b run other b run other 0
-  each-none w = record { whole = w; same-run = refl; same-other = refl; high = omega arith; limits = limits-same b; acts = record { is = refl; size = refl; side = refl; run-beyond = refl; other-beyond = refl; held = w .held }; is = refl }
+  all-done : s ≡ n → Acts (λ a. mergedEach merges (sizes (continues slot mask) (infos (a .rest))) 0 a) (running level n l₀ b) run₀ other₀ (running level n l b) run other
+  all-done end =
+      let P : Info → Info → Bool = continues slot mask in
+      let a : Account ℕ = accountOf (running level n l b) run other in
+      let none : sizes P (drop s (infos (a .rest))) ≡ [] = rw (rest-is, end) (no-group (b .phase) run other (v .whole .clean) fits P) in
+      acts-as (v .acts) (sym (ap (λ (ns : List ℕ). mergedEach merges ns s a) none ∙ no-merge merges s a) ∙ v .is)
 
-  module _ {f : Buffer} {run′ other′ : List ℕ} {s : ℕ} (v : Each merges slot mask b run other f run′ other′ s) where
-    pub each-len : f .len .0 ≡ b .len .0
-    each-len = ap (λ (x : Buffer). x .len .0) (v .limits) ∙ limits-len (f .limits) b
+module _ {merges : Bool} {slot mask level n : ℕ} {l₀ : Limits} {run₀ other₀ : List ℕ} where
+  pub each-none : RunRoom n run₀ other₀ → EachOf merges slot mask level n l₀ run₀ other₀ l₀ run₀ other₀ 0
+  each-none r = record {
+    room = r;
+    same-run = refl;
+    same-other = refl;
+    high = omega arith;
+    each = λ b w. record { whole = w; acts = record { is = refl; size = refl; side = refl; run-beyond = refl; other-beyond = refl; held = w .held }; is = refl };
+  }
 
-    pub each-fits : b .len .0 ≤ length (glyphs run′)
-    each-fits =
-        let h : Held f run′ other′ = v .whole .held in
-        omega (arith, each-len, h .len-in, h .all-in)
+  module _ {l : Limits} {run other : List ℕ} {s : ℕ} (v : EachOf merges slot mask level n l₀ run₀ other₀ l run other s) where
+    pub each-room : s < n → (s < n) × (n ≤ length (glyphs run))
+    each-room o = (o, v .room .fits)
 
-    rest-is : (accountOf f run′ other′) .rest ≡ take (b .len .0) (shown (f .phase) run′ other′)
-    rest-is = ap (λ (a : Account ℕ). a .rest) (account-whole (v .whole)) ∙ ap (λ (n : ℕ). take n (shown (f .phase) run′ other′)) each-len
+    module _ {e : ℕ} (o : s < n) (ee : e ≡ s + 1 + heads (isnt 0) (slice (s + 1) n (map (key slot mask) (infos (glyphs run))))) where
+      -- whatever the phase
+      inside : Group (continues slot mask) (shown Plain run other) n s e
+      inside = grapheme-group Plain run other refl (v .room .fits) slot mask o ee
 
-    pub each-group : {e : ℕ} → s < b .len .0 → e ≡ s + 1 + heads (isnt 0) (slice (s + 1) (b .len .0) (map (key slot mask) (infos (glyphs run′)))) → Group (continues slot mask) (shown (f .phase) run′ other′) (b .len .0) s e
-    each-group o ee = grapheme-group (f .phase) run′ other′ (v .whole .clean) each-fits slot mask o ee
+      pub each-merge : MergeRoom n 0 s e run other
+      each-merge = record { order = omega (arith, inside .after); end = inside .inside; fits = v .room .fits; out-fits = omega arith; same = glyphs-same run other (v .room .same) }
 
-    module _ {e : ℕ} (g : Group (continues slot mask) (shown (f .phase) run′ other′) (b .len .0) s e) where
-      pub each-mergeful : Mergeful f s e run′ other′
-      each-mergeful = record { held = v .whole .held; whole = v .whole .clean; start = rw (whole-gone (v .whole)) (omega arith); order = omega (arith, g .after); end = rw each-len (g .inside) }
+      pub each-less : n - e < n - s
+      each-less = omega (arith, inside .after, inside .inside)
 
-      pub each-more : {f′ : Buffer} {run″ other″ : List ℕ} → length run″ ≡ length run′ → length other″ ≡ length other′
-          → (Acts (merge merges (s - goneOf f) (e - goneOf f)) f run′ other′ f′ run″ other″) × (f′ ≡ withLimitsOf (f′ .limits) f) → Each merges slot mask b run other f′ run″ other″ e
-      each-more {f′} {run″} {other″} lr lo u =
-          let P : Info → Info → Bool = continues slot mask in
-          let a : Account ℕ = accountOf f run′ other′ in
-          let a′ : Account ℕ = accountOf f′ run″ other″ in
-          let after : s < e = g .after in
-          let order : s ≤ e = omega arith in
-          let on : s + (e - s) ≡ e = omega arith in
-          let done : a′ ≡ merge merges s e a = u .0 .is ∙ (ap (λ (n : ℕ). merge merges (s - n) (e - n) a) (whole-gone (v .whole)) ∙ rw (sub-zero s, sub-zero e)) in
-          let groups : sizes P (drop s (infos (a .rest))) ≡ (e - s) ∷ sizes P (drop e (infos (a .rest))) = rw rest-is (g .is) in
-          let later : sizes P (drop e (infos (a′ .rest))) ≡ sizes P (drop e (infos (a .rest))) =
-          graphemes-same slot mask e (infos (a′ .rest)) (infos (a .rest)) (ap (λ (x : Account ℕ). map (key slot mask) (infos (x .rest))) done ∙ keys-merge slot mask merges s e a order) in
-          let turned : mergedEach merges (sizes P (drop s (infos (a .rest)))) s a ≡ mergedEach merges (sizes P (drop e (infos (a .rest)))) (s + (e - s)) (merge merges s (s + (e - s)) a) =
-          ap (λ (ns : List ℕ). mergedEach merges ns s a) groups ∙ one-merge merges (e - s) (sizes P (drop e (infos (a .rest)))) s a in
-          record {
-            whole = whole-lengths lr lo (subst (λ (x : Buffer). WholeInput x run′ other′) (sym (u .1)) (limits-whole (f′ .limits) f (subst (λ (x : Buffer). Held x run′ other′) (u .1) (u .0 .held)) (v .whole)));
-            same-run = lr ∙ v .same-run;
-            same-other = lo ∙ v .same-other;
-            high = g .inside;
-            limits = u .1 ∙ (ap (withLimitsOf (f′ .limits)) (v .limits) ∙ limits-again (f′ .limits) (f .limits) b);
-            acts = acts-as (acts-then (v .acts) (v .same-run) (v .same-other) (u .0)) (sym (u .0 .is));
-            is = ap₂ (λ (ns : List ℕ) (x : Account ℕ). mergedEach merges ns e x) later done
-                ∙ (ap (λ (n : ℕ). mergedEach merges (sizes P (drop e (infos (a .rest)))) n (merge merges s n a)) (sym on)
-                ∙ (sym turned ∙ v .is));
-          }
+      pub each-more : {l′ : Limits} {run′ other′ : List ℕ} → MergesRun merges level n s e l l′ run other run′ other′ → length run′ ≡ length run → length other′ ≡ length other → EachOf merges slot mask level n l₀ run₀ other₀ l′ run′ other′ e
+      each-more c lr lo = record {
+        room = room-lengths (v .room) lr lo;
+        same-run = lr ∙ v .same-run;
+        same-other = lo ∙ v .same-other;
+        high = inside .inside;
+        each = λ b w.
+            let u = v .each b w in
+            one-more u (v .same-run) (v .same-other) lr lo (grapheme-group (b .phase) run other (u .whole .clean) (v .room .fits) slot mask o ee) (c .is .acts b (u .whole));
+      }
 
-    pub each-done : b .len .0 ≤ s → (Acts (λ a. mergedEach merges (sizes (continues slot mask) (infos (a .rest))) 0 a) b run other f run′ other′) × (f ≡ withLimitsOf (f .limits) b)
-    each-done o =
-        let P : Info → Info → Bool = continues slot mask in
-        let a : Account ℕ = accountOf f run′ other′ in
-        let high : s ≤ b .len .0 = v .high in
-        let end : s ≡ b .len .0 = omega arith in
-        let none : sizes P (drop s (infos (a .rest))) ≡ [] = rw (rest-is, end) (no-group (f .phase) run′ other′ (v .whole .clean) each-fits P) in
-        (acts-as (v .acts) (sym (ap (λ (ns : List ℕ). mergedEach merges ns s a) none ∙ no-merge merges s a) ∙ v .is), v .limits)
+    pub each-done : n ≤ s → MergesEach merges level n slot mask l₀ l run₀ other₀ run other
+    each-done o = record { is = record { acts = λ b w. all-done (v .each b w) (omega (arith, v .high)) } }
 
 -- ---- call 22
-pub form-not-whole : (slot mask : ℕ) (a : Account ℕ) → notWhole a ≡ true → formClusters slot mask a ≡ refused WrongPhase
-unfolding formClusters refuse_when_else_
-form-not-whole slot mask a h = rw h
-
-module _ {b : Buffer} {run other : List ℕ} (slot mask : ℕ) (w : WholeInput b run other) where
-  bad-operand : 1 < slot → formClusters slot mask (accountOf b run other) ≡ refused BadOperand
+module _ (slot mask : ℕ) (a : Account ℕ) where
+  form-not-whole : notWhole a ≡ true → formClusters slot mask a ≡ refused WrongPhase
   unfolding formClusters refuse_when_else_
-  bad-operand h = rw (not-not-whole w, lt-ltb 1 slot h)
+  form-not-whole h = rw h
 
-  pub form-bad : {r : Reply} → 1 < slot → r ≡ reply b (No BadOperand) → MeetsIn (λ capacity a. formClusters slot mask a) b run other r run other
-  form-bad h er = in-refused BadOperand (bad-operand h) (w .held) er
-
-  forms : {merging : Bool} → slot ≤ 1 → merging ≡ graphemesMerge (readLevel (b .level))
-      → formClusters slot mask (accountOf b run other) ≡ accepted (mergedEach merging (sizes (continues slot mask) (infos ((accountOf b run other) .rest))) 0 (accountOf b run other))
+  form-bad : notWhole a ≡ false → ltb 1 slot ≡ true → formClusters slot mask a ≡ refused BadOperand
   unfolding formClusters refuse_when_else_
-  forms h em = rw (not-not-whole w, le-ltb 1 slot h, level-of b run other, em)
+  form-bad h k = rw (h, k)
 
-  pub form-done : {merging : Bool} {f : Buffer} {run′ other′ : List ℕ} {r : Reply} → slot ≤ 1 → merging ≡ graphemesMerge (readLevel (b .level))
-      → Acts (λ a. mergedEach merging (sizes (continues slot mask) (infos (a .rest))) 0 a) b run other f run′ other′ → r ≡ reply f Done → MeetsIn (λ capacity a. formClusters slot mask a) b run other r run′ other′
-  form-done h em u er = in-acts u (forms h em) er
+  forms : notWhole a ≡ false → ltb 1 slot ≡ false → formClusters slot mask a ≡ accepted (mergedEach (graphemesMerge (a .state .level)) (sizes (continues slot mask) (infos (a .rest))) 0 a)
+  unfolding formClusters refuse_when_else_
+  forms h k = rw (h, k)
+
+module _ {slot : ℕ} (mask : ℕ) {b : Buffer} {merging : Bool} (em : merging ≡ graphemesMerge (readLevel (b .level))) where
+  form-on : OnKeyed Limits leftWith (λ capacity a. formClusters slot mask a) slot b (MergesEach merging (b .level) (b .len .0) slot mask (b .limits))
+  form-on = record {
+    whole = record { refuses = λ capacity a h. form-not-whole slot mask a h };
+    refuses = λ capacity a h k. form-bad slot mask a h k;
+    done = λ l run other run′ other′ w k lr lo c.
+        in-acts (charges-acts w w (c .is))
+        (forms slot mask _ (not-not-whole w) k
+        ∙ ap (λ (y : Bool). accepted (mergedEach y (sizes (continues slot mask) (infos ((accountOf b run other) .rest))) 0 (accountOf b run other))) (ap graphemesMerge (level-of b run other) ∙ sym em)) (settles-left b l);
+  }
+
+  pub form-decided : {f s : List ℕ} {v : Verdict} → TakesKeyed slot b f s v
+      → DecidedBy Limits leftWith (λ capacity a. formClusters slot mask a) b f s v (RunRoom (b .len .0) f s) (MergesEach merging (b .level) (b .len .0) slot mask (b .limits))
+  form-decided w = keyed-decided form-on w

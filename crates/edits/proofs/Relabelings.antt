@@ -19,7 +19,7 @@ use Rattle.edits.proofs.MergeCalls.{acts-paid, in-acts}
 use Rattle.edits.proofs.Pairs.{paired-numbered}
 use Rattle.edits.proofs.Places.{Apart, shown-edit}
 use Rattle.edits.proofs.WholeInputs.{wholeTest, not-not-whole, whole-is, whole-acts}
-use Rattle.edits.proofs.WholeCalls.{OnWhole, OnRun, whole-refuses, lying-whole, sound-whole, whole-run, run-second, takes-decided}
+use Rattle.edits.proofs.WholeCalls.{OnWhole, OnRun, whole-refuses, lying-whole, sound-whole, whole-room, whole-run, run-second, takes-decided}
 
 -- ---- which glyphs are masked
 abbrev maskTest : ℕ → ℕ → ℕ → Bool
@@ -131,7 +131,7 @@ module _ {mask : ℕ} {b : Buffer} {f s : List ℕ} {v : Verdict} where
 
   module _ (w : SetsMasks mask b f s v) (t : v .acts ≡ true) where
     pub masks-first : b .len .0 ≤ length (glyphs f)
-    masks-first = w .is 0 0 0 .asked t .fits
+    masks-first = w .is 0 0 0 .asked t .room .fits
 
     pub masks-second : b .len .0 ≤ length (glyphs s)
     masks-second = run-second (w .is 0 0 0 .asked t)
@@ -212,7 +212,7 @@ unfolding resetClusters refuse_when_else_
 on-run-reset b = record {
   whole = record { refuses = λ capacity a h. rw h };
   done = λ run other run′ other′ w lr lo act.
-      let fits = whole-run w .fits in
+      let fits = whole-room w .fits in
       rw (act .other-is) (in-acts
       (whole-acts w lr refl (numbered-behind (b .len .0) run run′ other fits (act .run-is)) refl (numbered 0) (shown-numbered (b .len .0) run run′ other fits (act .run-is) (b .phase) (w .clean)))
       (reset-all (accountOf b run other) (not-not-whole w)) refl);

@@ -26,10 +26,10 @@ shown-room Spoiled run other h k = absurd (false≢true (sym h))
 
 module _ {phase : Phase} {n : ℕ} {run other : List ℕ} (w : RunOf phase n run other) where
   places-same : length (glyphs run) ≡ length (placements other)
-  places-same = glyphs-same run other (w .same) ∙ sym (placements-glyphs other)
+  places-same = glyphs-same run other (w .room .same) ∙ sym (placements-glyphs other)
 
   shown-fits : n ≤ length (shown phase run other)
-  shown-fits = shown-room phase run other (w .clean) (w .fits)
+  shown-fits = shown-room phase run other (w .clean) (w .room .fits)
 
   pub shown-length : length (take n (shown phase run other)) ≡ n
   shown-length = length-take-le n (shown phase run other) shown-fits
@@ -62,11 +62,11 @@ pub turns-rearrange : {phase : Phase} {n s e : ℕ} {run other run′ other′ :
 turns-rearrange {phase} {n} {s} {e} {run} {other} {run′} {other′} w o f t = by (positionsPhase phase) refl (t .other-is)
   where
     kept : drop n (glyphs run′) ≡ drop n (glyphs run)
-    kept = ap (drop n) (t .run-is) ∙ turned-drop s e n (glyphs run) o f (w .fits)
+    kept = ap (drop n) (t .run-is) ∙ turned-drop s e n (glyphs run) o f (w .room .fits)
 
     by : (x : Bool) → positionsPhase phase ≡ x → placements other′ ≡ cond x (turned s e (placements other)) (placements other) → Rearranges (turned s e) phase n run other run′ other′
     by true h eo = record {
-      is = ap (take n) (shown-paired run other run′ other′ s e (t .run-is) phase h eo (places-same w) o (omega (arith, f, w .fits))) ∙ turned-take s e n (shown phase run other) o f (shown-fits w);
+      is = ap (take n) (shown-paired run other run′ other′ s e (t .run-is) phase h eo (places-same w) o (omega (arith, f, w .room .fits))) ∙ turned-take s e n (shown phase run other) o f (shown-fits w);
       run-behind = kept;
       other-behind = ap (drop n) eo ∙ turned-drop s e n (placements other) o f (places-fit w);
     }

@@ -33,7 +33,7 @@ module _ {phase : Phase} {m n : ℕ} {run other : List ℕ} (w : RunOf phase n r
 
   module _ (o : m < n) where
     fits : n ≤ length (glyphs run)
-    fits = w .fits
+    fits = w .room .fits
 
     other-fits : n ≤ length (placements other)
     other-fits = places-fit w
@@ -105,7 +105,7 @@ module _ (n : ℕ) where
     then = _;
     sized = λ run other w. length-is w;
     done = λ run other run′ other′ w h lr lo act. length-done w h lr lo act;
-    asked = λ f s w k. record { clean = w .clean; fits = k; same = w .held .same; few = omega (arith, k, w .held .most) };
+    asked = λ f s w k. record { clean = w .clean; room = record { fits = k; same = w .held .same; few = omega (arith, k, w .held .most) } };
     plain = refl;
   }
 

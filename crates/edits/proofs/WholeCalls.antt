@@ -9,7 +9,7 @@ use Rattle.lists.specs.declared.{Buffer.Buffer, Reply.Reply, Verdict.Verdict}
 use Rattle.lists.specs.{Account.Account, Contract.Meets, Contract.MeetsIn, Results.Result, Results.refused, State.sound, States.reply, Verdicts.leaving, Verdicts.Leaves, Verdicts.settled, Verdicts.Decided}
 use Rattle.lists.proofs.Accounts.{sound-held}
 use Rattle.lists.proofs.Decisions.{Lying, Refuses, leaves-is, near-same, decided-unsound, decided-refused, decided-does}
-use Rattle.edits.specs.{WholeRun.notWhole, Wholes.WholeInput, Wholes.RunOf, Wholes.wholeVerdict, Wholes.TakesWhole, Wholes.RunBecomes}
+use Rattle.edits.specs.{WholeRun.notWhole, Wholes.WholeInput, Wholes.RunRoom, Wholes.RunOf, Wholes.wholeVerdict, Wholes.TakesWhole, Wholes.RunBecomes}
 use Rattle.edits.proofs.WholeInputs.{wholeTest, whole-test, whole-input}
 
 -- ---- a call that is refused unless *rest* is the run
@@ -32,22 +32,32 @@ pub ending : {call : ℕ → Account ℕ → Result ℕ} {b : Buffer} {f s f′ 
 ending d k = k d
 
 -- ---- a run, whichever slice holds it
-module _ {phase : Phase} {n : ℕ} {run other : List ℕ} (w : RunOf phase n run other) where
-  pub run-turned : RunOf phase n other run
-  run-turned = let same : length (glyphs run) ≡ length (glyphs other) = glyphs-same run other (w .same) in record { clean = w .clean; fits = omega (arith, w .fits); same = sym (w .same); few = w .few }
+module _ {n : ℕ} {run other : List ℕ} (w : RunRoom n run other) where
+  pub room-turned : RunRoom n other run
+  room-turned = let same : length (glyphs run) ≡ length (glyphs other) = glyphs-same run other (w .same) in record { fits = omega (arith, w .fits); same = sym (w .same); few = w .few }
 
-  pub run-second : n ≤ length (glyphs other)
-  run-second = run-turned .fits
-
-  pub run-shorter : {m : ℕ} → m ≤ n → RunOf phase m run other
-  run-shorter h = record { clean = w .clean; fits = omega (arith, w .fits); same = w .same; few = omega (arith, w .few) }
-
-  pub places-fit : n ≤ length (placements other)
-  places-fit = let same : length (glyphs run) ≡ length (glyphs other) = glyphs-same run other (w .same) in omega (arith, w .fits, placements-glyphs other)
+  pub room-shorter : {m : ℕ} → m ≤ n → RunRoom m run other
+  room-shorter h = record { fits = omega (arith, w .fits); same = w .same; few = omega (arith, w .few) }
 
 -- lengths are all that it goes by
-pub run-lengths : {phase : Phase} {n : ℕ} {run other run′ other′ : List ℕ} → length run′ ≡ length run → length other′ ≡ length other → RunOf phase n run other → RunOf phase n run′ other′
-run-lengths {phase} {n} {run} {other} {run′} {other′} lr lo w = record { clean = w .clean; fits = rw (glyphs-same run′ run lr) (w .fits); same = lr ∙ (w .same ∙ sym lo); few = w .few }
+pub room-lengths : {n : ℕ} {run other run′ other′ : List ℕ} → RunRoom n run other → length run′ ≡ length run → length other′ ≡ length other → RunRoom n run′ other′
+room-lengths {n} {run} {other} {run′} {other′} w lr lo = record { fits = rw (glyphs-same run′ run lr) (w .fits); same = lr ∙ (w .same ∙ sym lo); few = w .few }
+
+module _ {phase : Phase} {n : ℕ} {run other : List ℕ} (w : RunOf phase n run other) where
+  pub run-turned : RunOf phase n other run
+  run-turned = record { clean = w .clean; room = room-turned (w .room) }
+
+  pub run-second : n ≤ length (glyphs other)
+  run-second = room-turned (w .room) .fits
+
+  pub run-shorter : {m : ℕ} → m ≤ n → RunOf phase m run other
+  run-shorter h = record { clean = w .clean; room = room-shorter (w .room) h }
+
+  pub places-fit : n ≤ length (placements other)
+  places-fit = omega (arith, run-second, placements-glyphs other)
+
+pub run-lengths : {phase : Phase} {n : ℕ} {run other run′ other′ : List ℕ} → RunOf phase n run other → length run′ ≡ length run → length other′ ≡ length other → RunOf phase n run′ other′
+run-lengths w lr lo = record { clean = w .clean; room = room-lengths (w .room) lr lo }
 
 pub below : {m n : ℕ} → m < n → m ≤ n
 below h = omega arith
@@ -55,8 +65,12 @@ below h = omega arith
 pub run-becomes : {h : List (Glyph ℕ) → List (Glyph ℕ)} {run other run′ : List ℕ} → glyphs run′ ≡ h (glyphs run) → RunBecomes h run other run′ other
 run-becomes e = record { run-is = e; other-is = refl }
 
-pub whole-run : {b : Buffer} {run other : List ℕ} → WholeInput b run other → RunOf (b .phase) (b .len .0) run other
-whole-run w = record { clean = w .clean; fits = omega (arith, w .held .len-in, w .held .all-in); same = w .held .same; few = omega (arith, w .held .len-in, w .held .all-in, w .held .most) }
+module _ {b : Buffer} {run other : List ℕ} (w : WholeInput b run other) where
+  pub whole-room : RunRoom (b .len .0) run other
+  whole-room = record { fits = omega (arith, w .held .len-in, w .held .all-in); same = w .held .same; few = omega (arith, w .held .len-in, w .held .all-in, w .held .most) }
+
+  pub whole-run : RunOf (b .phase) (b .len .0) run other
+  whole-run = record { clean = w .clean; room = whole-room }
 
 -- ---- 1B, 1D, 1F, 23: the verdict that they share
 module _ {b : Buffer} {f s : List ℕ} {v : Verdict} where
@@ -102,10 +116,10 @@ module _ {b : Buffer} {f s : List ℕ} {v : Verdict} (w : TakesWhole b f s v) (t
       by true false h k e = whole-run (sound-whole h refl k)
 
   pub takes-first : b .len .0 ≤ length (glyphs f)
-  takes-first = takes-run .fits
+  takes-first = takes-run .room .fits
 
   pub takes-second : b .len .0 ≤ length (glyphs s)
   takes-second = run-second takes-run
 
   pub takes-few : b .len .0 ≤ 1048576
-  takes-few = takes-run .few
+  takes-few = takes-run .room .few

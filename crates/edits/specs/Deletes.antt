@@ -3,9 +3,9 @@ use mathlib.Core.{Path._≡_, Bool.Bool, Bool.true, Bool.false, Bool._&&_, List.
 use Prim.Native.Nat.{ℕ, _+_, _≤_, _<_}
 use lib.{Dec.ltb, ListN.length, ListN.getD}
 use Rattle.records.specs.{Ranges.clusters, Ranges.is, Ranges.first, Ranges.last, View.glyphs}
-use Rattle.lists.specs.declared.{Buffer.Buffer, Reply.Reply, Verdict.Verdict}
-use Rattle.lists.specs.{Account.Account, Account.outputPhase, Results.Result, State.accountOf, State.Held, States.atPlaces, States.withLimitsOf, Contract.Meets, Verdicts.settled, Verdicts.Sided}
-use Rattle.edits.specs.{Acts.Acts, Deleting.current, Deleting.survives, Deleting.inherited, Deleting.deleted, MergeActs.mergeLimits}
+use Rattle.lists.specs.declared.{Buffer.Buffer, Verdict.Verdict}
+use Rattle.lists.specs.{Account.Account, Account.outputPhase, State.accountOf, State.Held, States.atPlaces, States.withLimitsOf}
+use Rattle.edits.specs.{Acts.Acts, Charges.leftWith, Deleting.current, Deleting.survives, Deleting.inherited, Deleting.deleted, MergeActs.mergeLimits}
 
 -- a buffer with output and a glyph at the cursor
 pub record Deletable (b : Buffer) (run other : List ℕ) : Type 0 where
@@ -54,12 +54,6 @@ pub record Deletes (separate : Bool) (level idx len outLen : ℕ) (merged : Bool
   pub acts : (b : Buffer) → let x = laid separate level idx len outLen b in Deletable x run other → Acts (λ a. deleted a) x run other (atPlaces (idx + 1) len outLen (withLimitsOf (mergeLimits merged 2 (b .limits)) x)) run′ other′
   pub own : separate ≡ false → other′ ≡ other
 
--- the reply of a call that knows only then whether it merged two glyphs
-unfoldable pub settledMerged : Buffer → Verdict → Bool → Reply
-settledMerged b v merged = settled b (record { idx = v .idx; len = v .len; «out_len» = v .«out_len»; limits = mergeLimits merged 2 (v .limits); apart = v .apart; acts = v .acts; answer = v .answer })
-
--- what is promised of its verdict
-pub record DecidedMerged (call : ℕ → Account ℕ → Result ℕ) (b : Buffer) (f s : List ℕ) (v : Verdict) (Ask : Type 0) (Act : Bool → (run other run′ other′ : List ℕ) → Type 0) : Type 0 where
-  pub still : v .acts ≡ false → Meets call b f s (settledMerged b v false) f s
-  pub asked : v .acts ≡ true → Ask
-  pub acted : v .acts ≡ true → (merged : Bool) {f′ s′ : List ℕ} → length f′ ≡ length f → length s′ ≡ length s → Sided (b .swapped) (Act merged) f s f′ s′ → Meets call b f s (settledMerged b v merged) f′ s′
+-- the verdict on the call, once it is known whether two glyphs were merged
+abbrev pub mergedWith : Bool → Verdict → Verdict
+mergedWith merged v = leftWith (mergeLimits merged 2 (v .limits)) v

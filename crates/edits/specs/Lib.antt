@@ -15,6 +15,7 @@ pub mod Acts
 pub mod MergeActs
 pub mod Puts
 pub mod Wholes
+pub mod Charges
 pub mod Fills
 pub mod Relabels
 pub mod Propagating

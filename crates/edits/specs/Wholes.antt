@@ -13,12 +13,16 @@ pub record WholeInput (b : Buffer) (run other : List ℕ) : Type 0 where
   pub clean : spoiledPhase (b .phase) ≡ false
   pub start : b .idx .0 ≡ 0
 
--- n glyphs of a run, in a phase that has lists, and as many positions
-pub record RunOf (phase : Phase) (n : ℕ) (run other : List ℕ) : Type 0 where
-  pub clean : spoiledPhase phase ≡ false
+-- slices that hold n glyphs of a run, and as many positions
+pub record RunRoom (n : ℕ) (run other : List ℕ) : Type 0 where
   pub fits : n ≤ length (glyphs run)
   pub same : length run ≡ length other
   pub few : n ≤ 1048576
+
+-- the same in a phase that has lists
+pub record RunOf (phase : Phase) (n : ℕ) (run other : List ℕ) : Type 0 where
+  pub clean : spoiledPhase phase ≡ false
+  pub room : RunRoom n run other
 
 -- 1B, 1D, 1F, 23: whether the call goes ahead
 unfoldable pub wholeVerdict : Buffer → (first second : List ℕ) → Verdict

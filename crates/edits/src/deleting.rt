@@ -1,6 +1,6 @@
 // Deletion: call 0F.
 ghost use mathlib.Core.Path.{_≡_};
-ghost use mathlib.Core.Bool.{false};
+ghost use mathlib.Core.Bool.{Bool, false};
 ghost use Prim.Native.Nat.{_+_, _≤_, _<_};
 ghost use lib.ListN.{length};
 ghost use Rattle.records.specs.View.{glyphs};
@@ -9,7 +9,8 @@ ghost use Rattle.lists.specs.Contract.{Meets};
 ghost use Rattle.lists.specs.Verdicts.{Sided};
 ghost use Rattle.edits.specs.Deleting.{deleted, deleteGlyph};
 ghost use Rattle.edits.specs.Acts.{Acts};
-ghost use Rattle.edits.specs.Deletes.{Deletable, DeleteRoom, NextFound, LastFound, Surviving, Inherits, Deletes, settledMerged, DecidedMerged};
+ghost use Rattle.edits.specs.Charges.{DecidedBy};
+ghost use Rattle.edits.specs.Deletes.{Deletable, DeleteRoom, NextFound, LastFound, Surviving, Inherits, Deletes, mergedWith};
 ghost use Rattle.edits.specs.MergeActs.{mergeLimits};
 use super::merge_acts;
 use super::merges;
@@ -83,7 +84,7 @@ fn inherit(run: &mut [u32], other: &mut [u32], separate: bool, idx: usize, out_l
 }
 
 // The cluster of the glyph at the cursor goes to a neighbour. Whether the two were merged, which costs 2.
-pub(crate) fn bequeath(
+pub(crate) fn keep_cluster(
     run: &mut [u32],
     other: &mut [u32],
     separate: bool,
@@ -123,7 +124,7 @@ pub(crate) fn bequeath(
 }
 
 // The same, wherever the run lies.
-fn bequeath_by(
+fn keep_cluster_by(
     first: &mut [u32],
     second: &mut [u32],
     swapped: bool,
@@ -137,9 +138,9 @@ fn bequeath_by(
     ensures { λ r. ⌜ Sided swapped (Deletes separate level idx len «out_len» r) (now (first .entry)) (now (second .entry)) (now (first .exit)) (now (second .exit)) ⌝ }
 {
     if swapped {
-        return bequeath(second, first, separate, level, idx, len, out_len);
+        return keep_cluster(second, first, separate, level, idx, len, out_len);
     }
-    bequeath(first, second, separate, level, idx, len, out_len)
+    keep_cluster(first, second, separate, level, idx, len, out_len)
 }
 
 fn drop_one(b: Buffer, merged: bool) -> Buffer
@@ -156,7 +157,7 @@ pub(crate) fn delete_one(b: Buffer, run: &mut [u32], other: &mut [u32]) -> Buffe
     requires { ⌜ Deletable b (now run) (now other) ⌝ }
     ensures { λ r. ⌜ (Acts (λ a. deleted a) b (now (run .entry)) (now (other .entry)) r (now (run .exit)) (now (other .exit))) × (r ≡ atPlaces (b .idx .0 + 1) (b .len .0) (b .«out_len» .0) (withLimitsOf (r .limits) b)) × (b .«have_separate_output» ≡ false → now (other .exit) ≡ now (other .entry)) ⌝ }
 {
-    let merged = bequeath(
+    let merged = keep_cluster(
         run,
         other,
         b.have_separate_output,
@@ -170,7 +171,7 @@ pub(crate) fn delete_one(b: Buffer, run: &mut [u32], other: &mut [u32]) -> Buffe
 
 // 0F. What is due where it merges is not in it.
 fn delete_verdict(b: Buffer, first: &[u32], second: &[u32]) -> Verdict
-    ensures { λ v. ⌜ DecidedMerged (λ capacity a. deleteGlyph a) b (now (first .entry)) (now (second .entry)) v (DeleteRoom (b .idx .0) (b .len .0) (b .«out_len» .0) (now (first .entry)) (now (second .entry))) (Deletes (b .«have_separate_output») (b .level) (b .idx .0) (b .len .0) (b .«out_len» .0)) ⌝ }
+    ensures { λ v. ⌜ DecidedBy Bool mergedWith (λ capacity a. deleteGlyph a) b (now (first .entry)) (now (second .entry)) v (DeleteRoom (b .idx .0) (b .len .0) (b .«out_len» .0) (now (first .entry)) (now (second .entry))) (Deletes (b .«have_separate_output») (b .level) (b .idx .0) (b .len .0) (b .«out_len» .0)) ⌝ }
 {
     if state::is_sound(b, first, second) {
         let phase = b.phase;
@@ -186,22 +187,13 @@ fn delete_verdict(b: Buffer, first: &[u32], second: &[u32]) -> Verdict
     verdicts::refused(b, Refusal::Contradiction)
 }
 
-// The reply, once it is known whether two glyphs were merged.
-fn settled_merged(b: Buffer, v: Verdict, merged: bool) -> Reply
-    ensures { λ r. ⌜ r ≡ settledMerged b v merged ⌝ }
-{
-    let mut due = v;
-    due.limits = merge_acts::merge_limits(v.limits, merged, 2);
-    verdicts::settled(b, due)
-}
-
 // 0F
 pub fn delete_glyph(b: Buffer, first: &mut [u32], second: &mut [u32]) -> Reply
     ensures { λ r. ⌜ Meets (λ capacity a. deleteGlyph a) b (now (first .entry)) (now (second .entry)) r (now (first .exit)) (now (second .exit)) ⌝ }
 {
-    let v = delete_verdict(b, first, second);
-    let merged = if v.acts {
-        bequeath_by(
+    let mut v = delete_verdict(b, first, second);
+    if v.acts {
+        let merged = keep_cluster_by(
             first,
             second,
             b.swapped,
@@ -210,9 +202,8 @@ pub fn delete_glyph(b: Buffer, first: &mut [u32], second: &mut [u32]) -> Reply
             b.idx.0,
             b.len.0,
             b.out_len.0,
-        )
-    } else {
-        false
-    };
-    settled_merged(b, v, merged)
+        );
+        v.limits = merge_acts::merge_limits(v.limits, merged, 2);
+    }
+    verdicts::settled(b, v)
 }

@@ -1,53 +1,60 @@
 // Groups of neighbours in the whole run: what calls 1E and 22 make of each grapheme.
-ghost use mathlib.Core.Path.{_≡_};
-ghost use Rattle.records.specs.Ranges.{infos};
-ghost use Rattle.lists.specs.States.{withLimitsOf};
-ghost use Rattle.lists.specs.State.{Held};
-ghost use Rattle.lists.specs.Contract.{Meets, MeetsIn};
-ghost use Rattle.edits.specs.Groups.{sizes, continues, mergedEach, formClusters};
-ghost use Rattle.edits.specs.Acts.{Acts};
-ghost use Rattle.edits.specs.Wholes.{WholeInput};
+ghost use Rattle.lists.specs.Contract.{Meets};
+ghost use Rattle.lists.specs.Verdicts.{Sided};
+ghost use Rattle.edits.specs.Groups.{formClusters};
+ghost use Rattle.edits.specs.Charges.{MergesEach};
+ghost use Rattle.edits.specs.Wholes.{RunRoom};
+use super::merge_acts;
 use super::merges;
 use super::whole;
 use lists::Buffer;
 use lists::Reply;
-use lists::state;
-use records::Refusal;
+use lists::verdicts;
+use records::Limits;
 
-// Each grapheme is merged, from the left.
+// Each grapheme is merged, from the left. What is left of the limits.
 pub(crate) fn merge_each(
-    b: Buffer,
     run: &mut [u32],
     other: &mut [u32],
     merging: bool,
+    level: u32,
+    limits: Limits,
+    len: usize,
     slot: u32,
     mask: u32,
-) -> Buffer
-    requires { ⌜ WholeInput b (now run) (now other) ⌝ }
-    ensures { λ r. ⌜ (Acts (λ a. mergedEach merging (sizes (continues slot mask) (infos (a .rest))) 0 a) b (now (run .entry)) (now (other .entry)) r (now (run .exit)) (now (other .exit))) × (r ≡ withLimitsOf (r .limits) b) ⌝ }
+) -> Limits
+    requires { ⌜ RunRoom len (now run) (now other) ⌝ }
+    ensures { λ r. ⌜ MergesEach merging level len slot mask limits r (now (run .entry)) (now (other .entry)) (now (run .exit)) (now (other .exit)) ⌝ }
 {
-    let mut f = b;
+    let mut left = limits;
     let mut s = 0;
-    while s < b.len.0 {
-        let e = lists::groups::grapheme_end(run, s, b.len.0, slot, mask);
-        f = merges::merge_at(f, run, other, merging, s, e);
+    while s < len {
+        let e = lists::groups::grapheme_end(run, s, len, slot, mask);
+        left = merge_acts::merge_run(run, other, merging, level, left, len, s, e);
         s = e;
     }
-    f
+    left
 }
 
-fn form_in(b: Buffer, run: &mut [u32], other: &mut [u32], slot: u32, mask: u32) -> Reply
-    requires { ⌜ Held b (now run) (now other) ⌝ }
-    ensures { λ r. ⌜ MeetsIn (λ capacity a. formClusters slot mask a) b (now (run .entry)) (now (other .entry)) r (now (run .exit)) (now (other .exit)) ⌝ }
+// The same, wherever the run lies.
+fn merge_each_by(
+    first: &mut [u32],
+    second: &mut [u32],
+    swapped: bool,
+    merging: bool,
+    level: u32,
+    limits: Limits,
+    len: usize,
+    slot: u32,
+    mask: u32,
+) -> Limits
+    requires { ⌜ RunRoom len (now first) (now second) ⌝ }
+    ensures { λ r. ⌜ Sided swapped (MergesEach merging level len slot mask limits r) (now (first .entry)) (now (second .entry)) (now (first .exit)) (now (second .exit)) ⌝ }
 {
-    if whole::not_whole(b) {
-        return state::refusal(b, Refusal::WrongPhase);
+    if swapped {
+        return merge_each(second, first, merging, level, limits, len, slot, mask);
     }
-    if 1 < slot {
-        return state::refusal(b, Refusal::BadOperand);
-    }
-    let merging = merges::graphemes_merge(b.level);
-    state::accepted(merge_each(b, run, other, merging, slot, mask))
+    merge_each(first, second, merging, level, limits, len, slot, mask)
 }
 
 // 22
@@ -60,11 +67,20 @@ pub fn form_clusters(
 ) -> Reply
     ensures { λ r. ⌜ Meets (λ capacity a. formClusters slot mask a) b (now (first .entry)) (now (second .entry)) r (now (first .exit)) (now (second .exit)) ⌝ }
 {
-    if state::is_sound(b, first, second) {
-        if b.swapped {
-            return form_in(b, second, first, slot, mask);
-        }
-        return form_in(b, first, second, slot, mask);
+    let merging = merges::graphemes_merge(b.level);
+    let mut v = whole::keyed_verdict(b, first, second, slot);
+    if v.acts {
+        v.limits = merge_each_by(
+            first,
+            second,
+            b.swapped,
+            merging,
+            b.level,
+            b.limits,
+            b.len.0,
+            slot,
+            mask,
+        );
     }
-    state::refusal(b, Refusal::Contradiction)
+    verdicts::settled(b, v)
 }

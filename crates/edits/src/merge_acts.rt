@@ -1,6 +1,7 @@
 // Merges by places: the glyphs of a merge, in whichever slice they lie, and what it costs.
 ghost use mathlib.Core.Path.{_≡_};
 ghost use Rattle.lists.specs.Verdicts.{Sided};
+ghost use Rattle.edits.specs.Charges.{MergesRun};
 ghost use Rattle.edits.specs.MergeActs.{mergeLimits, MergeRoom, Merges, OutMergeRoom, OutMerges};
 use super::flags;
 use super::merging;
@@ -63,6 +64,24 @@ pub(crate) fn merge_by(
         return;
     }
     flags::flag_range(first, level, 3, s, e);
+}
+
+// A merge of the places s to e of a whole run of len glyphs. What is left of the limits.
+pub(crate) fn merge_run(
+    run: &mut [u32],
+    other: &mut [u32],
+    merges: bool,
+    level: u32,
+    limits: Limits,
+    len: usize,
+    s: usize,
+    e: usize,
+) -> Limits
+    requires { ⌜ MergeRoom len 0 s e (now run) (now other) ⌝ }
+    ensures { λ r. ⌜ MergesRun merges level len s e limits r (now (run .entry)) (now (other .entry)) (now (run .exit)) (now (other .exit)) ⌝ }
+{
+    merge_by(run, other, false, false, merges, level, 0, len, 0, s, e);
+    merge_limits(limits, merges, e - s)
 }
 
 // A merge of the places s to e of the output, which lies apart from the run where it is `separate`.

@@ -4,6 +4,7 @@ ghost use mathlib.Core.Bool.{_||_};
 ghost use lib.Dec.{ltb};
 ghost use Rattle.lists.specs.Account.{outputPhase, spoiledPhase};
 ghost use Rattle.edits.specs.Wholes.{TakesWhole};
+ghost use Rattle.edits.specs.Charges.{TakesKeyed};
 use lists::Buffer;
 use lists::Verdict;
 use lists::state;
@@ -32,6 +33,22 @@ pub(crate) fn whole_verdict(b: Buffer, first: &[u32], second: &[u32]) -> Verdict
     if state::is_sound(b, first, second) {
         if not_whole(b) {
             return verdicts::refused(b, Refusal::WrongPhase);
+        }
+        return verdicts::verdict(b, true, Answer::Done);
+    }
+    verdicts::refused(b, Refusal::Contradiction)
+}
+
+// 1E, 21 and 22: nor does anything but the slot of their key.
+pub(crate) fn keyed_verdict(b: Buffer, first: &[u32], second: &[u32], slot: u32) -> Verdict
+    ensures { λ v. ⌜ TakesKeyed slot b (now (first .entry)) (now (second .entry)) v ⌝ }
+{
+    if state::is_sound(b, first, second) {
+        if not_whole(b) {
+            return verdicts::refused(b, Refusal::WrongPhase);
+        }
+        if 1 < slot {
+            return verdicts::refused(b, Refusal::BadOperand);
         }
         return verdicts::verdict(b, true, Answer::Done);
     }

@@ -1,12 +1,13 @@
 use mathlib.Core.Logic.{⊎-elim}
 use Rattle.lists.proofs.Decisions.{kept-length}
-use Rattle.edits.proofs.DeleteCalls.{merged-acted, merged-still}
+use Rattle.edits.proofs.Charging.{by-acted, by-still}
+use Rattle.edits.proofs.DeleteCalls.{due}
 use borrow.Author.Needs.{needs}
 use Rattle.edits.proofs.deleting.delete_glyph.Statement.{statement}
 use Rattle.edits.proofs.deleting.delete_glyph.Tie as tie
 
-bequeath-by-requires : tie.Need-bequeath-by-requires
-bequeath-by-requires c κs = c .before .before .before .delete-verdict .ensures .asked (c .before .before .if1 .taken)
+keep-cluster-by-requires : tie.Need-keep-cluster-by-requires
+keep-cluster-by-requires c κs = c .before .before .before .delete-verdict .ensures .asked (c .before .before .if1 .taken)
 
 same-length : tie.Need-same-length
 same-length c = ⊎-elim (λ w. search (kept-length, needs)) (λ w. search (kept-length, needs)) (c .before .if1 .came)
@@ -15,7 +16,7 @@ same-length-2 : tie.Need-same-length-2
 same-length-2 c = ⊎-elim (λ w. search (kept-length, needs)) (λ w. search (kept-length, needs)) (c .before .if1 .came)
 
 returns : tie.Need-returns
-returns c = ⊎-elim (λ w. search merged-acted) (λ w. search merged-still) (c .before .if1 .came)
+returns c = ⊎-elim (λ w. search (by-acted, due)) (λ w. search by-still) (c .before .if1 .came)
 
 pub delete-glyph-spec : {M : Type 1} → statement M
-delete-glyph-spec = tie.close (tie.spec (search needs) bequeath-by-requires (search needs) same-length same-length-2 returns)
+delete-glyph-spec = tie.close (tie.spec (search needs) keep-cluster-by-requires (search needs) (search needs) same-length same-length-2 returns)

@@ -3,11 +3,11 @@ use borrow.Author.Needs.{needs}
 use Rattle.edits.proofs.deleting.delete_one.Statement.{statement}
 use Rattle.edits.proofs.deleting.delete_one.Tie as tie
 
-bequeath-requires : tie.Need-bequeath-requires
-bequeath-requires c κs = search delete-room
+keep-cluster-requires : tie.Need-keep-cluster-requires
+keep-cluster-requires c κs = search delete-room
 
 returns : tie.Need-returns
 returns c = (search deletes-acts, search deletes-places, search deletes-own)
 
 pub delete-one-spec : {M : Type 1} → statement M
-delete-one-spec = tie.close (tie.spec bequeath-requires (search needs) (search needs) (search needs) returns)
+delete-one-spec = tie.close (tie.spec keep-cluster-requires (search needs) (search needs) (search needs) returns)

@@ -1,24 +1,23 @@
-use Rattle.lists.proofs.Decisions.{is-sound, is-unsound}
-use Rattle.lists.proofs.Accounts.{sound-held, held-turned}
-use Rattle.lists.proofs.Calls.{shell-first, shell-second, shell-unsound}
+use mathlib.Core.Path.{refl}
+use mathlib.Core.Logic.{⊎-elim}
+use Rattle.lists.proofs.Decisions.{kept-length}
+use Rattle.edits.proofs.Charging.{by-acted, by-still, keyed-run, ending}
+use Rattle.edits.proofs.GraphemeCalls.{graphemes-decided}
 use borrow.Author.Needs.{needs}
 use Rattle.edits.proofs.reversing.reverse_graphemes.Statement.{statement}
 use Rattle.edits.proofs.reversing.reverse_graphemes.Tie as tie
 
-reverse-graphemes-in-requires : tie.Need-reverse-graphemes-in-requires
-reverse-graphemes-in-requires c κs = search (held-turned, sound-held, is-sound)
+regroup-by-requires : tie.Need-regroup-by-requires
+regroup-by-requires c κs = search keyed-run
+
+same-length : tie.Need-same-length
+same-length c = ⊎-elim (λ w. search (kept-length, needs)) (λ w. search (kept-length, needs)) (c .before .if1 .came)
+
+same-length-2 : tie.Need-same-length-2
+same-length-2 c = ⊎-elim (λ w. search (kept-length, needs)) (λ w. search (kept-length, needs)) (c .before .if1 .came)
 
 returns : tie.Need-returns
-returns c = search (shell-second, is-sound)
-
-reverse-graphemes-in-requires-2 : tie.Need-reverse-graphemes-in-requires-2
-reverse-graphemes-in-requires-2 c κs = search (sound-held, is-sound)
-
-returns-2 : tie.Need-returns-2
-returns-2 c = search (shell-first, is-sound)
-
-returns-3 : tie.Need-returns-3
-returns-3 c = search (shell-unsound, is-unsound)
+returns c = let at : tie.After-keyed-verdict = search in let before : tie.After-read-level = search in ending (graphemes-decided _ (before .read-level .ensures) refl (at .keyed-verdict .ensures)) (λ d. ⊎-elim (λ w. search by-acted) (λ w. search by-still) (c .before .if1 .came))
 
 pub reverse-graphemes-spec : {M : Type 1} → statement M
-reverse-graphemes-spec = tie.close (tie.spec (search needs) reverse-graphemes-in-requires (search needs) (search needs) returns reverse-graphemes-in-requires-2 (search needs) (search needs) returns-2 (search needs) (search needs) (search needs) returns-3)
+reverse-graphemes-spec = tie.close (tie.spec (search needs) (search needs) regroup-by-requires (search needs) same-length same-length-2 returns)

@@ -1,0 +1,10 @@
+use Rattle.edits.proofs.MergeDecisions.{run-merges}
+use borrow.Author.Needs.{needs}
+use Rattle.edits.proofs.merge_acts.merge_run.Statement.{statement}
+use Rattle.edits.proofs.merge_acts.merge_run.Tie as tie
+
+returns : tie.Need-returns
+returns c = search run-merges
+
+pub merge-run-spec : {M : Type 1} → statement M
+merge-run-spec = tie.close (tie.spec (search needs) (search needs) (search needs) (search needs) (search needs) returns)
