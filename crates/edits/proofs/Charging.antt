@@ -3,13 +3,13 @@ use mathlib.Core.{Path._≡_, Path.refl, Path.sym, Path.ap, Path.ap₂, Path._�
 use Prim.Native.Nat.{ℕ, _≤_, _<_}
 use borrow.Author.Tests.{lt-ltb, le-ltb}
 use lib.{Dec.ltb, ListN.length}
-use Rattle.records.specs.{Contradiction, WrongPhase, BadOperand, Answer, Done, No, Limits}
+use Rattle.records.specs.{Refusal, Contradiction, WrongPhase, BadOperand, Answer, Done, No, Limits}
 use Rattle.lists.specs.declared.{Buffer.Buffer, Reply.Reply, Verdict.Verdict}
 use Rattle.lists.specs.{Account.Account, Contract.Meets, Contract.MeetsIn, Results.Result, Results.refused, State.sound, State.Held, States.reply, States.withLimitsOf, Verdicts.leaving, Verdicts.Leaves, Verdicts.settledBuffer, Verdicts.settled, Verdicts.Sided}
 use Rattle.lists.specs.States.{atPlaces}
-use Rattle.lists.proofs.Decisions.{Refuses, acts-is, leaves-is, settles-unsound, settles-refused, meets-sided}
+use Rattle.lists.proofs.Decisions.{Lying, Refuses, acts-is, leaves-is, settles-unsound, settles-refused, meets-sided}
 use Rattle.edits.specs.{Acts.Acts, WholeRun.notWhole, Wholes.WholeInput, Wholes.RunRoom, Wholes.RunOf, Charges.leftWith, Charges.DecidedBy, Charges.running, Charges.Charges, Charges.keyedVerdict, Charges.TakesKeyed}
-use Rattle.edits.proofs.WholeInputs.{wholeTest, not-not-whole}
+use Rattle.edits.proofs.WholeInputs.{wholeTest, not-not-whole, whole-lengths}
 use Rattle.edits.proofs.WholeCalls.{OnWhole, whole-refuses, lying-whole, sound-whole, whole-room, whole-run}
 
 -- ---- an act on the buffer that it is made for
@@ -27,6 +27,11 @@ charges-acts {Asked} {h} {b} {l} {run} {other} {run′} {other′} w a u =
     subst (λ (x : Buffer). Acts h x run other (withLimitsOf l x) run′ other′) (running-is b w)
     (u .acts b (subst (λ (x : Buffer). Asked x run other) (sym (running-is b w)) a))
 
+-- after a step that leaves the run where it is
+pub whole-after : {level n : ℕ} {l l′ : Limits} (b : Buffer) {h : Account ℕ → Account ℕ} {run other run′ other′ : List ℕ} → WholeInput (running level n l b) run other → Acts h (running level n l b) run other (running level n l′ b) run′ other′
+    → length run′ ≡ length run → length other′ ≡ length other → WholeInput (running level n l′ b) run′ other′
+whole-after b w u lr lo = whole-lengths lr lo (record { held = u .held; plain = w .plain; clean = w .clean; start = refl })
+
 pub settles-left : (b : Buffer) (l : Limits) → settled b (leftWith l (leaving b true Done)) ≡ reply (withLimitsOf l b) Done
 unfolding settled settledBuffer withLimitsOf atPlaces
 settles-left b l = refl
@@ -38,6 +43,18 @@ module _ {R : Type 0} {amend : R → Verdict → Verdict} {call : ℕ → Accoun
 
   pub by-unsound : sound b f s ≡ false → Leaves b false (No Contradiction) v → DecidedBy R amend call b f s v Ask Act
   by-unsound h w = by-none w (settles-unsound h w)
+
+  module _ (h : sound b f s ≡ true) where
+    pub by-refused : {why : Refusal} → Refuses call b f why → Leaves b false (No why) v → DecidedBy R amend call b f s v Ask Act
+    by-refused r w = by-none w (settles-refused h r w)
+
+    pub by-does : (b′ : Buffer) {a : Answer} → v ≡ leaving b′ true a → (true ≡ true → Ask)
+        → ((x : R) (run other run′ other′ : List ℕ) → Lying b f run other → length run′ ≡ length run → length other′ ≡ length other → Act x run other run′ other′ → MeetsIn call b run other (settled b (amend x (leaving b′ true a))) run′ other′) → DecidedBy R amend call b f s v Ask Act
+    by-does b′ {a} e ask law = record {
+      still = λ t. absurd (false≢true (sym t ∙ ap (λ (x : Verdict). x .acts) e));
+      asked = λ t. ask refl;
+      acted = λ t x lf ls act. rw e (meets-sided h lf ls act (law x));
+    }
 
 -- ---- the end of the calls
 module _ {R : Type 0} {amend : R → Verdict → Verdict} {call : ℕ → Account ℕ → Result ℕ} {b : Buffer} {f s f″ s″ : List ℕ} {v w : Verdict} {r : Reply} {Ask : Type 0} {Act : R → (run other run′ other′ : List ℕ) → Type 0} (d : DecidedBy R amend call b f s v Ask Act) (er : r ≡ settled b w) where
@@ -85,13 +102,9 @@ keyed-decided {R} {amend} {call} {slot} {b} {f} {s} {v} {Act} r w = by (sound b 
     by : (x y z : Bool) → sound b f s ≡ x → wholeTest b ≡ y → ltb 1 slot ≡ z → v ≡ cond x (cond y (leaving b false (No WrongPhase)) (cond z (leaving b false (No BadOperand)) (leaving b true Done))) (leaving b false (No Contradiction))
         → DecidedBy R amend call b f s v (RunRoom (b .len .0) f s) Act
     by false y z h k o e = by-unsound h (leaves-is b e)
-    by true true z h k o e = by-none (leaves-is b e) (settles-refused h (whole-refuses (r .whole) refl k) (leaves-is b e))
-    by true false true h k o e = by-none (leaves-is b e) (settles-refused h (record { law = λ run other l. r .refuses _ _ (not-not-whole (lying-whole refl k l)) o }) (leaves-is b e))
-    by true false false h k o e = record {
-      still = λ t. absurd (false≢true (sym t ∙ ap (λ (x : Verdict). x .acts) e));
-      asked = λ t. whole-room (sound-whole h refl k);
-      acted = λ t x lf ls act. rw e (meets-sided h lf ls act (λ run other run′ other′ l lr lo d. r .done x run other run′ other′ (lying-whole refl k l) o lr lo d));
-    }
+    by true true z h k o e = by-refused h (whole-refuses (r .whole) refl k) (leaves-is b e)
+    by true false true h k o e = by-refused h (record { law = λ run other l. r .refuses _ _ (not-not-whole (lying-whole refl k l)) o }) (leaves-is b e)
+    by true false false h k o e = by-does h b e (λ t. whole-room (sound-whole h refl k)) (λ x run other run′ other′ l lr lo d. r .done x run other run′ other′ (lying-whole refl k l) o lr lo d)
 
 module _ {slot : ℕ} {b : Buffer} {f s : List ℕ} {v : Verdict} (w : TakesKeyed slot b f s v) (t : v .acts ≡ true) where
   keyed-whole : WholeInput b f s

@@ -9,7 +9,7 @@ use Rattle.lists.specs.declared.{Buffer.Buffer, Verdict.Verdict}
 use Rattle.lists.specs.{Account.readLevel, Account.Account, Account.input, Account.withInput, Account.withDone, Account.paying, Account.limiting, Results.refused, Results.accepted, Results.refuse_when_else_, State.shown, State.accountOf}
 use Rattle.lists.proofs.{Accounts.level-of, Infos.words-drop, Infos.words-edit}
 use Rattle.edits.specs.{Acts.Acts, Charges.leftWith, Charges.DecidedBy, Charges.running, Charges.MergesRun, Charges.MergesEach, Charges.TakesKeyed, Flags.interior, Flags.sought, Flags.flagInterior, Groups.sizes, Groups.continues, Groups.mergedEach, Groups.formClusters, Merging.merge, Merging.merged, Merging.mergeStart, Merging.mergeEnd, Merging.graphemesMerge, MergeActs.MergeRoom, WholeRun.notWhole, Wholes.WholeInput, Wholes.RunRoom}
-use Rattle.edits.proofs.{Chaining.acts-as, Chaining.acts-then, Charging.OnKeyed, Charging.charges-acts, Charging.settles-left, Charging.keyed-decided, MergeCalls.in-acts, MergeLaws.merge-order, WholeCalls.whole-room, WholeCalls.room-lengths, WholeInputs.whole-lengths, WholeInputs.account-whole, WholeInputs.not-not-whole, GroupLaws.Group, GroupLaws.no-group, GroupLaws.grapheme-group, GroupLaws.graphemes-same}
+use Rattle.edits.proofs.{Chaining.acts-as, Chaining.acts-then, Charging.OnKeyed, Charging.charges-acts, Charging.settles-left, Charging.keyed-decided, Charging.whole-after, MergeCalls.in-acts, MergeLaws.merge-order, WholeCalls.whole-room, WholeCalls.room-lengths, WholeInputs.account-whole, WholeInputs.not-not-whole, GroupLaws.Group, GroupLaws.no-group, GroupLaws.grapheme-group, GroupLaws.graphemes-same}
 
 -- ---- the changes that leave a key alone
 module _ (slot mask : ℕ) where
@@ -109,11 +109,6 @@ one-merge merges n ns s x = refl
 no-merge : (merges : Bool) (s : ℕ) (x : Account ℕ) → mergedEach merges [] s x ≡ x
 unfolding mergedEach
 no-merge merges s x = refl
-
--- after a step that leaves the run where it is
-pub whole-after : {level n : ℕ} {l l′ : Limits} (b : Buffer) {h : Account ℕ → Account ℕ} {run other run′ other′ : List ℕ} → WholeInput (running level n l b) run other → Acts h (running level n l b) run other (running level n l′ b) run′ other′
-    → length run′ ≡ length run → length other′ ≡ length other → WholeInput (running level n l′ b) run′ other′
-whole-after b w u lr lo = whole-lengths lr lo (record { held = u .held; plain = w .plain; clean = w .clean; start = refl })
 
 module _ {merges : Bool} {slot mask level n : ℕ} {l₀ l : Limits} {run₀ other₀ run other : List ℕ} {s : ℕ} {b : Buffer} (v : Each merges slot mask level n l₀ run₀ other₀ l run other s b) where
   rest-is : (accountOf (running level n l b) run other) .rest ≡ take n (shown (b .phase) run other)
