@@ -100,13 +100,6 @@ module _ {apart merges : Bool} {level idx len outLen s e : ℕ} {run other run�
 pub room-of : {b : Buffer} {s e : ℕ} {run other : List ℕ} → Mergeful b s e run other → MergeRoom (b .len .0) (b .«out_len» .0) s e run other
 room-of {b} {s} {e} {run} {other} v = record { order = v .order; end = v .end; fits = omega (arith, v .held .len-in, v .held .all-in); out-fits = omega (arith, v .held .out-in, v .held .all-in); same = glyphs-same run other (v .held .same) }
 
-module _ (b : Buffer) {apart merges : Bool} {s e : ℕ} {run other run′ other′ : List ℕ} (ea : apart ≡ liesApart b) (w : Sided false (Merges apart merges (b .level) (b .idx .0) (b .len .0) (b .«out_len» .0) s e) run other run′ other′) where
-  pub merges-acts : {l : Limits} {r : Buffer} → Mergeful b s e run other → l ≡ mergeLimits merges (e - s) (b .limits) → r ≡ withLimitsOf l b → Acts (merge merges (s - goneOf b) (e - goneOf b)) b run other r run′ other′
-  merges-acts v el er = rw (er, el) (w .first refl .acts b (sym ea) v)
-
-  pub merges-other : liesApart b ≡ false → other′ ≡ other
-  merges-other h = w .first refl .apart-only (ea ∙ h)
-
 -- of a whole run
 pub run-merges : {merges : Bool} {level n s e : ℕ} (l : Limits) {l′ : Limits} {run other run′ other′ : List ℕ} → Sided false (Merges false merges level 0 n 0 s e) run other run′ other′ → MergeRoom n 0 s e run other → l′ ≡ mergeLimits merges (e - s) l
     → MergesRun merges level n s e l l′ run other run′ other′
@@ -120,13 +113,6 @@ run-merges {merges} {level} {n} {s} {e} l {l′} {run} {other} {run′} {other�
         rw el (acts-as u (ap (λ (k : ℕ). merge merges (s - k) (e - k) (accountOf y run other)) gone ∙ rw (sub-zero s, sub-zero e)));
   };
 }
-
-pub clusters-acts : (b : Buffer) (merges : Bool) (i j : ℕ) {r : Buffer} {run other run′ other′ : List ℕ} → merges ≡ clustersMerge (readLevel (b .level)) → Acts (merge merges i j) b run other r run′ other′ → Acts (merge (clustersMerge (readLevel (b .level))) i j) b run other r run′ other′
-clusters-acts b merges i j {r} {run} {other} {run′} {other′} em u = subst (λ (x : Bool). Acts (merge x i j) b run other r run′ other′) em u
-
-pub own-limits : (b : Buffer) (l : Limits) {r : Buffer} → r ≡ withLimitsOf l b → r ≡ withLimitsOf (r .limits) b
-unfolding withLimitsOf
-own-limits b l er = rw er
 
 -- the verdict on one that goes ahead
 pub leaves-paid : (b : Buffer) (merges : Bool) (n : ℕ) {x : Buffer} {l : Limits} {v : Verdict} → l ≡ mergeLimits merges n (b .limits) → x ≡ withLimitsOf l b → Leaves x true Done v → Leaves (withLimitsOf (mergeLimits merges n (b .limits)) b) true Done v

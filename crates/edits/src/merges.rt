@@ -1,14 +1,11 @@
 // Merging: calls 11 to 14.
 ghost use mathlib.Core.Path.{_≡_};
-ghost use mathlib.Core.Bool.{false, _&&_, _||_};
-ghost use Prim.Native.Nat.{_-_};
+ghost use mathlib.Core.Bool.{_||_};
 ghost use lib.Dec.{ltb};
-ghost use Rattle.lists.specs.Account.{outputPhase, readLevel};
+ghost use Rattle.lists.specs.Account.{readLevel};
 ghost use Rattle.lists.specs.State.{goneOf};
-ghost use Rattle.lists.specs.States.{withLimitsOf};
 ghost use Rattle.lists.specs.Contract.{Meets};
-ghost use Rattle.edits.specs.Merging.{merge, mergeInput, mergeDone, clustersMerge, graphemesMerge};
-ghost use Rattle.edits.specs.Acts.{Acts, Mergeful};
+ghost use Rattle.edits.specs.Merging.{mergeInput, mergeDone, clustersMerge, graphemesMerge};
 ghost use Rattle.edits.specs.MergeActs.{liesApart};
 use super::merge_acts;
 use super::merge_verdicts;
@@ -45,50 +42,6 @@ pub fn graphemes_merge(level: u32) -> bool
         return true;
     }
     known == 3
-}
-
-// A merge that another call makes on its way.
-pub(crate) fn merge_at(
-    b: Buffer,
-    run: &mut [u32],
-    other: &mut [u32],
-    merges: bool,
-    s: usize,
-    e: usize,
-) -> Buffer
-    requires { ⌜ Mergeful b s e (now run) (now other) ⌝ }
-    ensures { λ r. ⌜ (Acts (merge merges (s - goneOf b) (e - goneOf b)) b (now (run .entry)) (now (other .entry)) r (now (run .exit)) (now (other .exit))) × (r ≡ withLimitsOf (r .limits) b) × ((outputPhase (b .phase) && b .«have_separate_output») ≡ false → now (other .exit) ≡ now (other .entry)) ⌝ }
-{
-    let apart = lies_apart(b);
-    merge_acts::merge_by(
-        run,
-        other,
-        false,
-        apart,
-        merges,
-        b.level,
-        b.idx.0,
-        b.len.0,
-        b.out_len.0,
-        s,
-        e,
-    );
-    state::with_limits(b, merge_acts::merge_limits(b.limits, merges, e - s))
-}
-
-// The merge of clusters that another call makes on its way.
-pub(crate) fn merge_clusters_at(
-    b: Buffer,
-    run: &mut [u32],
-    other: &mut [u32],
-    s: usize,
-    e: usize,
-) -> Buffer
-    requires { ⌜ Mergeful b s e (now run) (now other) ⌝ }
-    ensures { λ r. ⌜ (Acts (merge (clustersMerge (readLevel (b .level))) (s - goneOf b) (e - goneOf b)) b (now (run .entry)) (now (other .entry)) r (now (run .exit)) (now (other .exit))) × (r ≡ withLimitsOf (r .limits) b) × ((outputPhase (b .phase) && b .«have_separate_output») ≡ false → now (other .exit) ≡ now (other .entry)) ⌝ }
-{
-    let merges = clusters_merge(b.level);
-    merge_at(b, run, other, merges, s, e)
 }
 
 // How many glyphs of the input no list shows.
