@@ -101,16 +101,15 @@ pub room-of : {b : Buffer} {s e : ℕ} {run other : List ℕ} → Mergeful b s e
 room-of {b} {s} {e} {run} {other} v = record { order = v .order; end = v .end; fits = omega (arith, v .held .len-in, v .held .all-in); out-fits = omega (arith, v .held .out-in, v .held .all-in); same = glyphs-same run other (v .held .same) }
 
 -- of a whole run
-pub run-merges : {merges : Bool} {level n s e : ℕ} (l : Limits) {l′ : Limits} {run other run′ other′ : List ℕ} → Sided false (Merges false merges level 0 n 0 s e) run other run′ other′ → MergeRoom n 0 s e run other → l′ ≡ mergeLimits merges (e - s) l
-    → MergesRun merges level n s e l l′ run other run′ other′
+pub run-merges : {merges : Bool} {level n s e : ℕ} {run other run′ other′ : List ℕ} → Sided false (Merges false merges level 0 n 0 s e) run other run′ other′ → MergeRoom n 0 s e run other → MergesRun merges level n s e run other run′ other′
 unfolding withLimitsOf
-run-merges {merges} {level} {n} {s} {e} l {l′} {run} {other} {run′} {other′} w m el = record {
-  is = record {
+run-merges {merges} {level} {n} {s} {e} {run} {other} {run′} {other′} w m = record {
+  is = λ l. record {
     acts = λ b v.
         let y = running level n l b in
         let gone : goneOf y ≡ 0 = whole-gone v in
         let u : Acts (merge merges (s - goneOf y) (e - goneOf y)) y run other (withLimitsOf (mergeLimits merges (e - s) l) y) run′ other′ = w .first refl .acts y (rw (v .plain)) (record { held = v .held; whole = v .clean; start = omega (arith, gone); order = m .order; end = m .end }) in
-        rw el (acts-as u (ap (λ (k : ℕ). merge merges (s - k) (e - k) (accountOf y run other)) gone ∙ rw (sub-zero s, sub-zero e)));
+        acts-as u (ap (λ (k : ℕ). merge merges (s - k) (e - k) (accountOf y run other)) gone ∙ rw (sub-zero s, sub-zero e));
   };
 }
 

@@ -8,7 +8,7 @@ use Rattle.records.proofs.View.{glyphs-same}
 use Rattle.lists.specs.declared.{Buffer.Buffer, Verdict.Verdict}
 use Rattle.lists.specs.{Account.readLevel, Account.Account, Account.input, Account.withInput, Account.withDone, Account.paying, Account.limiting, Results.refused, Results.accepted, Results.refuse_when_else_, State.shown, State.accountOf}
 use Rattle.lists.proofs.{Accounts.level-of, Infos.words-drop, Infos.words-edit}
-use Rattle.edits.specs.{Acts.Acts, Charges.leftWith, Charges.DecidedBy, Charges.running, Charges.MergesRun, Charges.MergesEach, Charges.TakesKeyed, Flags.interior, Flags.sought, Flags.flagInterior, Groups.sizes, Groups.continues, Groups.mergedEach, Groups.formClusters, Merging.merge, Merging.merged, Merging.mergeStart, Merging.mergeEnd, Merging.graphemesMerge, MergeActs.MergeRoom, WholeRun.notWhole, Wholes.WholeInput, Wholes.RunRoom}
+use Rattle.edits.specs.{Acts.Acts, Charges.leftWith, Charges.DecidedBy, Charges.running, Charges.MergesRun, Charges.MergesEach, Charges.TakesKeyed, Flags.interior, Flags.sought, Flags.flagInterior, Groups.sizes, Groups.continues, Groups.mergedEach, Groups.formClusters, Merging.merge, Merging.merged, Merging.mergeStart, Merging.mergeEnd, Merging.graphemesMerge, MergeActs.mergeLimits, MergeActs.MergeRoom, WholeRun.notWhole, Wholes.WholeInput, Wholes.RunRoom}
 use Rattle.edits.proofs.{Chaining.acts-as, Chaining.acts-then, Charging.OnKeyed, Charging.charges-acts, Charging.settles-left, Charging.keyed-decided, Charging.whole-after, MergeCalls.in-acts, MergeLaws.merge-order, WholeCalls.whole-room, WholeCalls.room-lengths, WholeInputs.account-whole, WholeInputs.not-not-whole, GroupLaws.Group, GroupLaws.no-group, GroupLaws.grapheme-group, GroupLaws.graphemes-same}
 
 -- ---- the changes that leave a key alone
@@ -171,15 +171,15 @@ module _ {merges : Bool} {slot mask level n : ℕ} {l₀ : Limits} {run₀ other
       pub each-less : n - e < n - s
       each-less = omega (arith, inside .after, inside .inside)
 
-      pub each-more : {l′ : Limits} {run′ other′ : List ℕ} → MergesRun merges level n s e l l′ run other run′ other′ → length run′ ≡ length run → length other′ ≡ length other → EachOf merges slot mask level n l₀ run₀ other₀ l′ run′ other′ e
-      each-more c lr lo = record {
+      pub each-more : {l′ : Limits} {run′ other′ : List ℕ} → MergesRun merges level n s e run other run′ other′ → l′ ≡ mergeLimits merges (e - s) l → length run′ ≡ length run → length other′ ≡ length other → EachOf merges slot mask level n l₀ run₀ other₀ l′ run′ other′ e
+      each-more {l′} {run′} {other′} c el lr lo = record {
         room = room-lengths (v .room) lr lo;
         same-run = lr ∙ v .same-run;
         same-other = lo ∙ v .same-other;
         high = inside .inside;
         each = λ b w.
             let u = v .each b w in
-            one-more u (v .same-run) (v .same-other) lr lo (grapheme-group (b .phase) run other (u .whole .clean) (v .room .fits) slot mask o ee) (c .is .acts b (u .whole));
+            one-more u (v .same-run) (v .same-other) lr lo (grapheme-group (b .phase) run other (u .whole .clean) (v .room .fits) slot mask o ee) (rw el (c .is l .acts b (u .whole)));
       }
 
     pub each-done : n ≤ s → MergesEach merges level n slot mask l₀ l run₀ other₀ run other

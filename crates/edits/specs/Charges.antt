@@ -1,11 +1,11 @@
 -- Calls on the whole run whose act says what is left of the limits: what is promised of their verdicts and of their acts.
 use mathlib.Core.{Path._≡_, Bool.Bool, Bool.true, Bool.false, Bool.cond, Bool._||_, List.List}
-use Prim.Native.Nat.{ℕ}
+use Prim.Native.Nat.{ℕ, _-_}
 use lib.{Dec.ltb, ListN.length}
 use Rattle.records.specs.{Contradiction, WrongPhase, BadOperand, Done, No, Limits, Ranges.infos}
 use Rattle.lists.specs.declared.{Buffer.Buffer, Verdict.Verdict}
 use Rattle.lists.specs.{Account.Account, Account.outputPhase, Account.spoiledPhase, Results.Result, State.sound, Contract.Meets, Verdicts.leaving, Verdicts.settled, Verdicts.Sided}
-use Rattle.edits.specs.{Acts.Acts, Groups.sizes, Groups.continues, Groups.mergedEach, Merging.merge, Wholes.WholeInput}
+use Rattle.edits.specs.{Acts.Acts, Groups.sizes, Groups.continues, Groups.mergedEach, Merging.merge, MergeActs.mergeLimits, Wholes.WholeInput}
 
 -- a verdict with other limits
 abbrev pub leftWith : Limits → Verdict → Verdict
@@ -26,8 +26,8 @@ pub record Charges (Asked : Buffer → (run other : List ℕ) → Type 0) (h : A
   pub acts : (b : Buffer) → Asked (running level n l b) run other → Acts h (running level n l b) run other (running level n l′ b) run′ other′
 
 -- a merge of s..e, and a merge of each grapheme, on every whole run that lies here
-pub record MergesRun (merges : Bool) (level n s e : ℕ) (l l′ : Limits) (run other run′ other′ : List ℕ) : Type 0 where
-  pub is : Charges WholeInput (merge merges s e) level n l l′ run other run′ other′
+pub record MergesRun (merges : Bool) (level n s e : ℕ) (run other run′ other′ : List ℕ) : Type 0 where
+  pub is : (l : Limits) → Charges WholeInput (merge merges s e) level n l (mergeLimits merges (e - s) l) run other run′ other′
 
 pub record MergesEach (merging : Bool) (level n slot mask : ℕ) (l l′ : Limits) (run other run′ other′ : List ℕ) : Type 0 where
   pub is : Charges WholeInput (λ a. mergedEach merging (sizes (continues slot mask) (infos (a .rest))) 0 a) level n l l′ run other run′ other′

@@ -30,7 +30,8 @@ pub(crate) fn merge_each(
     let mut s = 0;
     while s < len {
         let e = lists::groups::grapheme_end(run, s, len, slot, mask);
-        left = merge_acts::merge_run(run, other, merging, level, left, len, s, e);
+        merge_acts::merge_run(run, other, merging, level, len, s, e);
+        left = merge_acts::merge_limits(left, merging, e - s);
         s = e;
     }
     left

@@ -66,22 +66,20 @@ pub(crate) fn merge_by(
     flags::flag_range(first, level, 3, s, e);
 }
 
-// A merge of the places s to e of a whole run of len glyphs. What is left of the limits.
+// A merge of the places s to e of a whole run of len glyphs.
 pub(crate) fn merge_run(
     run: &mut [u32],
     other: &mut [u32],
     merges: bool,
     level: u32,
-    limits: Limits,
     len: usize,
     s: usize,
     e: usize,
-) -> Limits
+)
     requires { ⌜ MergeRoom len 0 s e (now run) (now other) ⌝ }
-    ensures { λ r. ⌜ MergesRun merges level len s e limits r (now (run .entry)) (now (other .entry)) (now (run .exit)) (now (other .exit)) ⌝ }
+    ensures { λ r. ⌜ MergesRun merges level len s e (now (run .entry)) (now (other .entry)) (now (run .exit)) (now (other .exit)) ⌝ }
 {
     merge_by(run, other, false, false, merges, level, 0, len, 0, s, e);
-    merge_limits(limits, merges, e - s)
 }
 
 // A merge of the places s to e of the output, which lies apart from the run where it is `separate`.

@@ -1,5 +1,5 @@
 -- Laws of verdicts, whichever the call: that the reply made of a verdict meets the call. A law of a single call is stated of the slice that holds the run and the other.
-use mathlib.Core.{Path._≡_, Path.refl, Path.sym, Path.ap, Path._∙_, Bool.Bool, Bool.true, Bool.false, Bool.cond, Bool.false≢true, List.List}
+use mathlib.Core.{Path._≡_, Path.refl, Path.sym, Path.ap, Path._∙_, Bool.Bool, Bool.true, Bool.false, Bool.cond, Bool._||_, Bool.false≢true, List.List}
 use Prim.Native.Nat.{ℕ, _+_}
 use lib.{ListN.length}
 use Rattle.records.specs.{Refusal, Contradiction, OverCapacity, Answer, Done, Value, No, Limits, Answers.said, Counters.capacityOf, Counters.failed, Counters.grown, View.wordsFrom}
@@ -77,6 +77,9 @@ acts-is w = ap (λ (x : Verdict). x .acts) (w .is)
 
 pub leaves-is : (b : Buffer) {acts : Bool} {a : Answer} {v : Verdict} → v ≡ leaving b acts a → Leaves b acts a v
 leaves-is b e = record { is = e }
+
+pub leaves-copied : (b : Buffer) {acts : Bool} {a : Answer} {l : Limits} → l ≡ b .limits → Leaves b acts a (record { idx = b .idx .0; len = b .len .0; «out_len» = b .«out_len» .0; limits = l; apart = false; acts = acts; answer = a })
+leaves-copied b e = record { is = rw e }
 
 pub leaves-as : {b b′ : Buffer} {acts : Bool} {a : Answer} {v : Verdict} → b ≡ b′ → Leaves b acts a v → Leaves b′ acts a v
 leaves-as {b} {b′} {acts} {a} e w = record { is = w .is ∙ ap (λ (x : Buffer). leaving x acts a) e }
@@ -261,14 +264,19 @@ module _ {capacity : ℕ} {b : Buffer} {i o : ℕ} {acts : Bool} {v : Verdict} {
   pub sized-over : room ≡ Over → Leaves b false (No OverCapacity) v → Sized capacity b i o acts v
   sized-over h w = by-size Over h (w .is)
 
-module _ (b : Buffer) (v : Verdict) {x y : Buffer} (ex : x ≡ atPlaces (v .idx) (v .len) (v .«out_len») b) (ey : y ≡ withLimitsOf (v .limits) x) where
-  pub settled-within : v .apart ≡ false → reply y (v .answer) ≡ settled b v
-  unfolding settled settledBuffer
-  settled-within h = rw (h, ey, ex)
+module _ (b : Buffer) (v : Verdict) where
+  abbrev settledApart : Bool → Reply
+  settledApart t = reply (record { idx = record { 0 = v .idx }; len = record { 0 = v .len }; «out_len» = record { 0 = v .«out_len» }; phase = b .phase; limits = v .limits; level = b .level; wants = b .wants; swapped = b .swapped; «have_separate_output» = t }) (v .answer)
 
-  pub settled-apart : {z : Buffer} → v .apart ≡ true → z ≡ apartBuffer y → reply z (v .answer) ≡ settled b v
-  unfolding settled settledBuffer
-  settled-apart h ez = rw (h, ez, ey, ex)
+  pub settled-fields : settledApart (b .«have_separate_output» || v .apart) ≡ settled b v
+  unfolding settled settledBuffer apartBuffer withLimitsOf atPlaces
+  settled-fields = by (b .«have_separate_output») (v .apart) refl
+    where
+      by : (x y : Bool) → b .«have_separate_output» ≡ x → settledApart (x || y) ≡ reply (cond y (apartBuffer (withLimitsOf (v .limits) (atPlaces (v .idx) (v .len) (v .«out_len») b))) (withLimitsOf (v .limits) (atPlaces (v .idx) (v .len) (v .«out_len») b))) (v .answer)
+      by true true h = refl
+      by false true h = refl
+      by true false h = ap settledApart (sym h)
+      by false false h = ap settledApart (sym h)
 
 module _ (b after : Buffer) (v : Verdict) {r : Reply} where
   pub settled-acts : r ≡ reply after Done → v .acts ≡ true → r ≡ settledAs b after v

@@ -10,13 +10,15 @@ use super::Room;
 use super::Verdict;
 use super::state;
 use records::Answer;
+use records::DonePlace;
+use records::InputPlace;
 use records::Refusal;
 
 // The verdict that leaves this state.
 pub fn verdict(b: Buffer, acts: bool, answer: Answer) -> Verdict
     ensures { λ r. ⌜ Leaves b acts answer r ⌝ }
 {
-    let limits = b.limits;
+    let limits = records::counters::copied(b.limits);
     Verdict {
         idx: b.idx.0,
         len: b.len.0,
@@ -86,18 +88,21 @@ pub fn lies_elsewhere(b: Buffer) -> bool
 pub fn settled(b: Buffer, v: Verdict) -> Reply
     ensures { λ r. ⌜ r ≡ settled b v ⌝ }
 {
+    let phase = b.phase;
     let limits = v.limits;
     let answer = v.answer;
-    let after = state::with_limits(state::at_places(b, v.idx, v.len, v.out_len), limits);
-    if v.apart {
-        let apart = state::apart(after);
-        return Reply {
-            buffer: apart,
-            answer: answer,
-        };
-    }
     Reply {
-        buffer: after,
+        buffer: Buffer {
+            idx: InputPlace(v.idx),
+            len: InputPlace(v.len),
+            out_len: DonePlace(v.out_len),
+            phase: phase,
+            limits: limits,
+            level: b.level,
+            wants: b.wants,
+            swapped: b.swapped,
+            have_separate_output: b.have_separate_output | v.apart,
+        },
         answer: answer,
     }
 }

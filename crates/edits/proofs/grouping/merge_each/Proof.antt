@@ -31,4 +31,4 @@ returns : tie.Need-returns Inv-loop μ-loop
 returns c = search each-done
 
 pub merge-each-spec : {M : Type 1} → statement M
-merge-each-spec = tie.close (tie.spec Inv-loop μ-loop loop-holds grapheme-end-requires merge-run-requires loop-less loop-again (search needs) (search needs) returns)
+merge-each-spec = tie.close (tie.spec Inv-loop μ-loop loop-holds grapheme-end-requires merge-run-requires (search needs) (search needs) loop-less loop-again (search needs) (search needs) returns)

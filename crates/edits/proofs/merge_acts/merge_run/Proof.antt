@@ -7,4 +7,4 @@ returns : tie.Need-returns
 returns c = search run-merges
 
 pub merge-run-spec : {M : Type 1} → statement M
-merge-run-spec = tie.close (tie.spec (search needs) (search needs) (search needs) (search needs) (search needs) returns)
+merge-run-spec = tie.close (tie.spec (search needs) (search needs) (search needs) returns)
