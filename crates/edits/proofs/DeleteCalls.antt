@@ -83,20 +83,6 @@ module _ {separate t : Bool} {level idx len outLen : ℕ} {run other : List ℕ}
 pub delete-room : {b : Buffer} {run other : List ℕ} → Deletable b run other → DeleteRoom (b .idx .0) (b .len .0) (b .«out_len» .0) run other
 delete-room {b} {run} {other} v = record { some = v .some; fits = omega (arith, v .held .len-in, v .held .all-in); out-fits = omega (arith, v .held .out-in, v .held .all-in); same = glyphs-same run other (v .held .same) }
 
-module _ (b : Buffer) {merged : Bool} {run other run′ other′ : List ℕ} (w : Deletes (b .«have_separate_output») (b .level) (b .idx .0) (b .len .0) (b .«out_len» .0) merged run other run′ other′) where
-  pub deletes-acts : {r : Buffer} → Deletable b run other → r ≡ atPlaces (b .idx .0 + 1) (b .len .0) (b .«out_len» .0) (withLimitsOf (mergeLimits merged 2 (b .limits)) b) → Acts (λ a. deleted a) b run other r run′ other′
-  deletes-acts v er = rw er (w .acts b v)
-
-  pub deletes-own : b .«have_separate_output» ≡ false → other′ ≡ other
-  deletes-own h = w .own h
-
-pub deletes-places : (b : Buffer) (l : Limits) {r : Buffer} → r ≡ atPlaces (b .idx .0 + 1) (b .len .0) (b .«out_len» .0) (withLimitsOf l b) → r ≡ atPlaces (b .idx .0 + 1) (b .len .0) (b .«out_len» .0) (withLimitsOf (r .limits) b)
-unfolding atPlaces withLimitsOf
-deletes-places b l er = rw er
-
-pub drops : (b : Buffer) (merged : Bool) {l : Limits} {x r : Buffer} → l ≡ mergeLimits merged 2 (b .limits) → x ≡ withLimitsOf l b → r ≡ atPlaces (b .idx .0 + 1) (b .len .0) (b .«out_len» .0) x → r ≡ atPlaces (b .idx .0 + 1) (b .len .0) (b .«out_len» .0) (withLimitsOf (mergeLimits merged 2 (b .limits)) b)
-drops b merged el ex er = rw (er, ex, el)
-
 -- ---- 0F
 module _ (a : Account ℕ) where
   delete-none : hasOutput a ≡ false → deleteGlyph a ≡ refused WrongPhase

@@ -6,11 +6,15 @@ use lib.{Dec.ltb, ListN.length, ListN.take, ListN.drop, ListN.getD, ListN.set, S
 use Rattle.records.specs.{Phase, Position, Counters.costs, Glyphs.Glyph, Glyphs.Info, Glyphs.blank, Glyphs.change, Glyphs.withPosition, Glyphs.zeroPosition, Glyphs.setCluster, Ranges.clusters, Ranges.infos, Ranges.edit, Ranges.is, Ranges.isnt, Ranges.least, Ranges.first, Ranges.last, Ranges.tails, View.paired, View.zeroGlyph}
 use Rattle.records.proofs.{View.length-paired, View.length-clusters, Pairs.paired-take, Pairs.paired-drop, Pairs.paired-set, Pairs.paired-at}
 use Rattle.lists.specs.{Account.Account, Account.State, Account.inPhase, Account.withGone, Account.withLimits, Account.input, Account.limiting, Account.paying, Account.withInput, Account.withDone, Cursor.dropping}
-use Rattle.edits.specs.{Deleting.current, Deleting.survives, Deleting.inherited, Deleting.mergedForward, Deleting.deleted, Flags.interior, Flags.sought, Flags.flagInterior, Merging.mergeEnd, Merging.mergeStart, Merging.mergeTail, Merging.merged, Merging.merge, Merging.clustersMerge, Underway.pairing}
+use Rattle.edits.specs.{Deleting.current, Deleting.survives, Deleting.inherited, Deleting.mergedForward, Deleting.deleted, Flags.interior, Flags.sought, Flags.flagInterior, Merging.mergeEnd, Merging.mergeStart, Merging.mergeTail, Merging.merged, Merging.merge, Merging.clustersMerge}
 use Rattle.records.proofs.Pairs.{cluster-alone, mask-alone}
 use Rattle.edits.proofs.Holding.{same-account}
 use Rattle.edits.proofs.MergeLaws.{merge-order}
 use Rattle.edits.proofs.Places.{Apart, set-apart, clusters-paired, paired-edit, paired-interior}
+
+-- the glyphs, each with its position where there are positions
+unfoldable pub pairing : Bool → List (Glyph ℕ) → List Position → List (Glyph ℕ)
+pairing positions l ps = cond positions (paired l ps) l
 
 module _ (t : Bool) (l : List (Glyph ℕ)) (ps : List Position) where
   pub pairing-take : (n : ℕ) → take n (pairing t l ps) ≡ pairing t (take n l) (take n ps)

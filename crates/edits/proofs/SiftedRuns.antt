@@ -1,83 +1,113 @@
--- Call 21, below its shell: the loop over the glyphs, the run that it leaves, and the tests.
-use mathlib.Core.{Path._≡_, Path.refl, Path.sym, Path.ap, Path._∙_, Path.subst, Bool.Bool, Bool.true, Bool.false, Bool.false≢true, List.List}
+-- Call 21: the loop over the glyphs, the run that it leaves, and the call.
+use mathlib.Core.{Path._≡_, Path.refl, Path.sym, Path.ap, Path._∙_, Path.subst, Bool.Bool, Bool.true, Bool.false, Bool.cond, Bool.false≢true, List.List}
 use Prim.Native.Nat.{ℕ, suc, _+_, _-_, _≤_, _<_}
+use native.Mathlib.Nat.{sub-zero}
 use native.Mathlib.Omega.{arith}
-use borrow.Author.Tests.{le-ltb, lt-ltb}
-use lib.{Dec.ltb, ListN.length, ListN.take}
-use Rattle.records.specs.{Phase, Plain, Output, Positions, Spoiled, WrongPhase, BadOperand, Done, No, Ranges.is, View.glyphs, View.placements, View.wordsFrom}
-use Rattle.lists.specs.declared.{Buffer.Buffer, Reply.Reply}
-use Rattle.lists.specs.{Account.readLevel, Account.Account, Account.outputPhase, Account.positionsPhase, Account.spoiledPhase, Account.withGone, Contract.MeetsIn, Results.refused, Results.accepted, Results.refuse_when_else_, State.shown, State.stateOf, State.accountOf, State.Held, States.reply, States.atPlaces, States.withLimitsOf, States.openedBuffer}
-use Rattle.lists.proofs.{Accounts.held-lengths, Calls.in-refused}
-use Rattle.edits.specs.{Acts.Acts, Deleting.deletedEach, Deleting.keptRun, Deleting.deleteGlyphsInplace, Underway.pairing, Underway.underway, Underway.sifted, Underway.Siftable, Underway.Sifts, WholeRun.notWhole, Wholes.WholeInput}
-use Rattle.lists.proofs.Outputs.{output}
+use lib.{Dec.ltb, ListN.length, ListN.take, ListN.getD, ListN.set}
+use Rattle.records.specs.{Phase, Plain, Output, Positions, Spoiled, WrongPhase, BadOperand, Done, Limits, Glyphs.key, Glyphs.zeroPosition, View.glyphs, View.placements, View.wordsFrom, View.zeroGlyph}
+use Rattle.records.proofs.View.{glyphs-same}
+use Rattle.lists.specs.declared.{Buffer.Buffer, Verdict.Verdict}
+use Rattle.lists.specs.{Account.readLevel, Account.Account, Account.outputPhase, Account.positionsPhase, Account.spoiledPhase, Account.withGone, Results.refused, Results.accepted, Results.refuse_when_else_, State.shown, State.stateOf, State.accountOf, State.Held, States.reply, States.atPlaces, States.withLimitsOf, Verdicts.leaving, Verdicts.settledBuffer, Verdicts.settled}
+use Rattle.lists.proofs.{Accounts.held-lengths}
+use Rattle.edits.specs.declared.{Kept.Kept}
+use Rattle.edits.specs.{Acts.Acts, Charges.DecidedBy, Charges.running, Charges.TakesKeyed, Deleting.deletedEach, Deleting.keptRun, Deleting.deleteGlyphsInplace, MergeActs.mergeLimits, WholeRun.notWhole, Wholes.WholeInput, Wholes.RunRoom}
+use Rattle.edits.specs.Deletes.{DeleteRoom, Deletes, MoveRoom, MovesGlyph, Sifts, keptWith}
 use Rattle.edits.proofs.Holding.{same-account}
 use Rattle.edits.proofs.MergeCalls.{in-acts}
+use Rattle.edits.proofs.{Charging.OnKeyed, Charging.running-is, Charging.keyed-decided, WholeCalls.room-lengths}
 use Rattle.edits.proofs.WholeInputs.{not-not-whole, whole-gone, account-whole, whole-rest}
-use Rattle.edits.proofs.Siftings.{phaseOf, level-is, wants-is, len-is, still-siftable}
+use Rattle.edits.proofs.Pairings.{pairing}
+use Rattle.edits.proofs.Siftings.{amid, phaseOf, underway, sifted, Onward, Next, one-deleted, one-kept, keep-room}
 
--- ---- all of them: what is left to do from s comes to what there was to do from b
-pub record Sifting (slot mask value : ℕ) (t : Bool) (b : Buffer) (run₀ other₀ : List ℕ) (s : Buffer) (run other : List ℕ) : Type 0 where
-  pub base : Siftable b run₀ other₀
-  pub is : deletedEach slot mask value (s .len .0 - s .idx .0) (underway t s run other) ≡ deletedEach slot mask value (b .len .0 - b .idx .0) (underway t b run₀ other₀)
-  pub size : s .limits .allocated ≡ b .limits .allocated
-  pub places : s ≡ atPlaces (s .idx .0) (b .len .0) (s .«out_len» .0) (withLimitsOf (s .limits) b)
-  pub run-beyond : wordsFrom (b .limits .allocated) run ≡ wordsFrom (b .limits .allocated) run₀
-  pub other-beyond : wordsFrom (b .limits .allocated) other ≡ wordsFrom (b .limits .allocated) other₀
-  pub held : Held s run₀ other₀
-  pub run-length : length run ≡ length run₀
-  pub other-length : length other ≡ length other₀
+-- ---- what is left to do from i on comes to what there was to do
+pub record Sifting (slot mask value : ℕ) (t : Bool) (level n : ℕ) (l₀ : Limits) (run₀ other₀ : List ℕ) (l : Limits) (run other : List ℕ) (i o : ℕ) (b : Buffer) : Type 0 where
+  pub held : Held (amid level n b l i o) run other
+  pub is : deletedEach slot mask value (n - i) (underway t (amid level n b l i o) run other) ≡ deletedEach slot mask value n (underway t (amid level n b l₀ 0 0) run₀ other₀)
+  pub size : l .allocated ≡ l₀ .allocated
+  pub run-beyond : wordsFrom (l₀ .allocated) run ≡ wordsFrom (l₀ .allocated) run₀
+  pub other-beyond : wordsFrom (l₀ .allocated) other ≡ wordsFrom (l₀ .allocated) other₀
 
-module _ {slot mask value : ℕ} {t : Bool} {b : Buffer} {run₀ other₀ : List ℕ} where
-  pub sifting-none : Siftable b run₀ other₀ → Sifting slot mask value t b run₀ other₀ b run₀ other₀
-  unfolding atPlaces withLimitsOf
-  sifting-none v = record { base = v; is = refl; size = refl; places = refl; run-beyond = refl; other-beyond = refl; held = v .held; run-length = refl; other-length = refl }
+-- on every buffer whose run lies here
+pub record SiftingOf (slot mask value : ℕ) (t : Bool) (level n : ℕ) (l₀ : Limits) (run₀ other₀ : List ℕ) (l : Limits) (run other : List ℕ) (i o : ℕ) : Type 0 where
+  pub room : RunRoom n run other
+  pub same-run : length run ≡ length run₀
+  pub same-other : length other ≡ length other₀
+  pub low : o ≤ i
+  pub high : i ≤ n
+  pub each : (b : Buffer) → WholeInput (running level n l₀ b) run₀ other₀ → Sifting slot mask value t level n l₀ run₀ other₀ l run other i o b
 
-  module _ {s : Buffer} {run other : List ℕ} (w : Sifting slot mask value t b run₀ other₀ s run other) where
-    pub sifting-siftable : Siftable s run other
-    sifting-siftable = still-siftable b (s .idx .0) (b .len .0) (s .«out_len» .0) (w .places) (w .base) (w .held) (w .run-length) (w .other-length)
+module _ {slot mask value : ℕ} {t : Bool} {level n : ℕ} {l₀ : Limits} {run₀ other₀ : List ℕ} where
+  begun : (b : Buffer) → WholeInput (running level n l₀ b) run₀ other₀ → Sifting slot mask value t level n l₀ run₀ other₀ l₀ run₀ other₀ 0 0 b
+  begun b w = record {
+    held = record {
+      idx-in = omega arith;
+      len-in = w .held .len-in;
+      out-in = omega arith;
+      all-in = w .held .all-in;
+      most = w .held .most;
+      same = w .held .same;
+      whole = w .held .whole;
+      behind = λ p s. omega arith;
+      none = λ p. refl;
+    };
+    is = ap (λ (m : ℕ). deletedEach slot mask value m (underway t (amid level n b l₀ 0 0) run₀ other₀)) (sub-zero n);
+    size = refl;
+    run-beyond = refl;
+    other-beyond = refl;
+  }
 
-    pub sifting-done : s .len .0 ≤ s .idx .0 → Sifts (deletedEach slot mask value (b .len .0 - b .idx .0)) t b run₀ other₀ s run other
-    unfolding deletedEach
-    sifting-done h =
-        let z : s .len .0 - s .idx .0 ≡ 0 = omega arith in
-        record {
-          is = sym (ap (λ (n : ℕ). deletedEach slot mask value n (underway t s run other)) z) ∙ w .is;
-          size = w .size;
-          places = w .places;
-          run-beyond = w .run-beyond;
-          other-beyond = w .other-beyond;
-          held = w .held;
-        }
+  pub sifting-none : RunRoom n run₀ other₀ → SiftingOf slot mask value t level n l₀ run₀ other₀ l₀ run₀ other₀ 0 0
+  sifting-none r = record { room = r; same-run = refl; same-other = refl; low = omega arith; high = omega arith; each = begun }
 
-    module _ {r : Buffer} {run′ other′ : List ℕ} (some : s .idx .0 < s .len .0) (u : (Sifts (sifted slot mask value) t s run other r run′ other′) × (r .idx .0 ≡ s .idx .0 + 1)) (lr : length run′ ≡ length run) (lo : length other′ ≡ length other) where
-      same-len : r .len .0 ≡ s .len .0
-      same-len = len-is s (r .idx .0) (s .len .0) (r .«out_len» .0) (u .0 .places)
-
-      more-is : deletedEach slot mask value (r .len .0 - r .idx .0) (underway t r run′ other′) ≡ deletedEach slot mask value (s .len .0 - s .idx .0) (underway t s run other)
-      unfolding deletedEach sifted
-      more-is =
-          let m : s .len .0 - s .idx .0 ≡ suc (r .len .0 - r .idx .0) = omega (arith, same-len, u .1, some) in
-          ap (deletedEach slot mask value (r .len .0 - r .idx .0)) (u .0 .is) ∙ sym (ap (λ (n : ℕ). deletedEach slot mask value n (underway t s run other)) m)
-
-      more-places : r ≡ atPlaces (r .idx .0) (b .len .0) (r .«out_len» .0) (withLimitsOf (r .limits) b)
-      unfolding atPlaces withLimitsOf
-      more-places = u .0 .places ∙ ap (λ (k : Buffer). atPlaces (r .idx .0) (k .len .0) (r .«out_len» .0) (withLimitsOf (r .limits) k)) (w .places)
-
-      pub sifting-more : Sifting slot mask value t b run₀ other₀ r run′ other′
-      sifting-more = record {
-        base = w .base;
-        is = more-is ∙ w .is;
-        size = u .0 .size ∙ w .size;
-        places = more-places;
-        run-beyond = subst (λ (n : ℕ). wordsFrom n run′ ≡ wordsFrom n run) (w .size) (u .0 .run-beyond) ∙ w .run-beyond;
-        other-beyond = subst (λ (n : ℕ). wordsFrom n other′ ≡ wordsFrom n other) (w .size) (u .0 .other-beyond) ∙ w .other-beyond;
-        held = held-lengths r run other run₀ other₀ (sym (w .run-length)) (sym (w .other-length)) (u .0 .held);
-        run-length = lr ∙ w .run-length;
-        other-length = lo ∙ w .other-length;
+  -- one step further
+  one-more : {l l′ : Limits} {run other run′ other′ : List ℕ} {i o o′ : ℕ} {b : Buffer} → Sifting slot mask value t level n l₀ run₀ other₀ l run other i o b → i < n → length run′ ≡ length run → length other′ ≡ length other
+      → Onward (sifted slot mask value) t (amid level n b l i o) run other (amid level n b l′ (i + 1) o′) run′ other′ → Sifting slot mask value t level n l₀ run₀ other₀ l′ run′ other′ (i + 1) o′ b
+  unfolding deletedEach sifted
+  one-more {l} {l′} {run} {other} {run′} {other′} {i} {o} {o′} {b} w some lr lo u =
+      let m : n - i ≡ suc (n - (i + 1)) = omega arith in
+      record {
+        held = held-lengths (amid level n b l′ (i + 1) o′) run other run′ other′ lr lo (u .held);
+        is = ap (deletedEach slot mask value (n - (i + 1))) (u .is) ∙ (sym (ap (λ (k : ℕ). deletedEach slot mask value k (underway t (amid level n b l i o) run other)) m) ∙ w .is);
+        size = u .size ∙ w .size;
+        run-beyond = subst (λ (k : ℕ). wordsFrom k run′ ≡ wordsFrom k run) (w .size) (u .run-beyond) ∙ w .run-beyond;
+        other-beyond = subst (λ (k : ℕ). wordsFrom k other′ ≡ wordsFrom k other) (w .size) (u .other-beyond) ∙ w .other-beyond;
       }
 
-      pub sifting-less : r .len .0 - r .idx .0 < s .len .0 - s .idx .0
-      sifting-less = omega (arith, same-len, u .1, some)
+  module _ {l : Limits} {run other : List ℕ} {i o : ℕ} (v : SiftingOf slot mask value t level n l₀ run₀ other₀ l run other i o) where
+    module _ (some : i < n) where
+      pub sifting-key : i < length (glyphs run)
+      sifting-key = omega (arith, v .room .fits)
+
+      pub sifting-delete : DeleteRoom i n o run other
+      sifting-delete = record { some = some; fits = v .room .fits; out-fits = omega (arith, v .room .fits, v .low); same = glyphs-same run other (v .room .same) }
+
+      pub sifting-keep : MoveRoom i o run other
+      sifting-keep = keep-room (v .room) (v .low) some
+
+      next : (b : Buffer) → WholeInput (running level n l₀ b) run₀ other₀ → Next level n l i o b run other
+      next b w = record { room = v .room; low = v .low; some = some; held = v .each b w .held }
+
+      -- of each, as the loop goes on
+      further : {l′ : Limits} {run′ other′ : List ℕ} {o′ : ℕ} → length run′ ≡ length run → length other′ ≡ length other → o′ ≤ i + 1
+          → ((b : Buffer) → WholeInput (running level n l₀ b) run₀ other₀ → Onward (sifted slot mask value) t (amid level n b l i o) run other (amid level n b l′ (i + 1) o′) run′ other′)
+          → SiftingOf slot mask value t level n l₀ run₀ other₀ l′ run′ other′ (i + 1) o′
+      further lr lo below u = record {
+        room = room-lengths (v .room) lr lo;
+        same-run = lr ∙ v .same-run;
+        same-other = lo ∙ v .same-other;
+        low = below;
+        high = omega (arith, some);
+        each = λ b w. one-more (v .each b w) some lr lo (u b w);
+      }
+
+      module _ {k : ℕ} (ek : k ≡ key slot mask (getD (glyphs run) i zeroGlyph .info)) {run₁ other₁ run′ other′ : List ℕ} {l′ : Limits} {o′ : ℕ} where
+        pub sifting-deleted : {l₁ : Limits} {merged : Bool} → Deletes false level i n o merged run other run₁ other₁ → k ≡ value → l₁ ≡ mergeLimits merged 2 l → length run₁ ≡ length run → length other₁ ≡ length other
+            → run′ ≡ run₁ → other′ ≡ other₁ → l′ ≡ l₁ → o′ ≡ o → SiftingOf slot mask value t level n l₀ run₀ other₀ l′ run′ other′ (i + 1) o′
+        sifting-deleted d h el lr lo er eo e eq = rw (er, eo, e ∙ el, eq) (further lr lo (omega (arith, v .low)) (λ b w. one-deleted t slot mask value (next b w) ek h d))
+
+        pub sifting-kept : MovesGlyph t i o run other run₁ other₁ → (k ≡ value → ⊥) → length run₁ ≡ length run → length other₁ ≡ length other
+            → run′ ≡ run₁ → other′ ≡ other₁ → l′ ≡ l → o′ ≡ o + 1 → SiftingOf slot mask value t level n l₀ run₀ other₀ l′ run′ other′ (i + 1) o′
+        sifting-kept u h lr lo er eo e eq = rw (er, eo, e, eq) (further lr lo (omega (arith, v .low)) (λ b w. one-kept t slot mask value (next b w) ek h u lr lo))
 
 -- ---- the whole run
 phase-known : (p : Phase) → outputPhase p ≡ false → spoiledPhase p ≡ false → phaseOf (positionsPhase p) ≡ p
@@ -93,93 +123,65 @@ shown-known Output run other o s = absurd (false≢true (sym o))
 shown-known Positions run other o s = refl
 shown-known Spoiled run other o s = absurd (false≢true (sym s))
 
-module _ {b : Buffer} {run other : List ℕ} (w : WholeInput b run other) where
-  pub opened-siftable : {q : Buffer} → q ≡ openedBuffer b → Siftable q run other
-  unfolding openedBuffer
-  opened-siftable e = rw e (record {
+module _ {slot mask value level n i o : ℕ} {t : Bool} {l₀ l : Limits} {run₀ other₀ run other : List ℕ} {b : Buffer} (w : WholeInput (running level n l₀ b) run₀ other₀) (et : t ≡ positionsPhase (b .phase))
+    (v : Sifting slot mask value t level n l₀ run₀ other₀ l run other i o b) (lr : length run ≡ length run₀) (lo : length other ≡ length other₀) (end : n ≤ i) where
+  phase-is : phaseOf t ≡ b .phase
+  phase-is = ap phaseOf et ∙ phase-known (b .phase) (w .plain) (w .clean)
+
+  shown-is : (r s : List ℕ) → pairing t (glyphs r) (placements s) ≡ shown (b .phase) r s
+  shown-is r s = ap (λ (x : Bool). pairing x (glyphs r) (placements s)) et ∙ shown-known (b .phase) r s (w .plain) (w .clean)
+
+  begun-is : underway t (amid level n b l₀ 0 0) run₀ other₀ ≡ accountOf (running level n l₀ b) run₀ other₀
+  unfolding underway stateOf
+  begun-is = same-account refl refl (ap (take n) (shown-is run₀ other₀)) (λ x. record { phase = phase-is x; gone = sym (whole-gone w) x; limits = l₀; level = readLevel level; wants = b .wants }) ∙ sym (account-whole w)
+
+  left-whole : WholeInput (running level o l b) run other
+  left-whole = record {
     held = record {
       idx-in = omega arith;
-      len-in = w .held .len-in;
+      len-in = v .held .out-in;
       out-in = omega arith;
-      all-in = w .held .all-in;
-      most = w .held .most;
-      same = w .held .same;
-      whole = w .held .whole;
+      all-in = v .held .all-in;
+      most = v .held .most;
+      same = v .held .same;
+      whole = v .held .whole;
       behind = λ p s. omega arith;
       none = λ p. refl;
     };
-    output = refl;
-    within = refl;
-  })
+    plain = w .plain;
+    clean = w .clean;
+    start = refl;
+  }
 
-  opened-is : underway (positionsPhase (b .phase)) (openedBuffer b) run other ≡ accountOf b run other
-  unfolding underway openedBuffer stateOf
-  opened-is =
-      let p : phaseOf (positionsPhase (b .phase)) ≡ b .phase = phase-known (b .phase) (w .plain) (w .clean) in
-      let s : pairing (positionsPhase (b .phase)) (glyphs run) (placements other) ≡ shown (b .phase) run other = shown-known (b .phase) run other (w .plain) (w .clean) in
-      same-account refl refl (ap (take (b .len .0)) s) (λ x. record { phase = p x; gone = sym (whole-gone w) x; limits = b .limits; level = readLevel (b .level); wants = b .wants }) ∙ sym (account-whole w)
+  left-is : accountOf (running level o l b) run other ≡ keptRun (underway t (amid level n b l i o) run other)
+  unfolding keptRun underway withGone stateOf
+  left-is = account-whole left-whole ∙ same-account refl refl (ap (take o) (sym (shown-is run other))) (λ x. record { phase = sym phase-is x; gone = whole-gone left-whole x; limits = l; level = readLevel level; wants = b .wants })
 
-  module _ (slot mask value : ℕ) {q d : Buffer} {run′ other′ : List ℕ} {t : Bool} (et : t ≡ positionsPhase (b .phase)) (eq : q ≡ openedBuffer b) (u : Sifts (deletedEach slot mask value (q .len .0 - q .idx .0)) t q run other d run′ other′)
-      (lr : length run′ ≡ length run) (lo : length other′ ≡ length other) where
-    sifted-is : underway (positionsPhase (b .phase)) d run′ other′ ≡ deletedEach slot mask value (length ((accountOf b run other) .rest)) (accountOf b run other)
-    unfolding openedBuffer
-    sifted-is =
-        let n : q .len .0 - q .idx .0 ≡ length ((accountOf b run other) .rest) = ap (λ (x : Buffer). x .len .0 - x .idx .0) eq ∙ sym (whole-rest w ∙ omega arith) in
-        ap (λ (x : Bool). underway x d run′ other′) (sym et)
-        ∙ (u .is
-        ∙ ((λ x. deletedEach slot mask value (n x) (underway (et x) (eq x) run other)) ∙ ap (deletedEach slot mask value (length ((accountOf b run other) .rest))) opened-is))
+  all-sifted : underway t (amid level n b l i o) run other ≡ deletedEach slot mask value (length ((accountOf (running level n l₀ b) run₀ other₀) .rest)) (accountOf (running level n l₀ b) run₀ other₀)
+  unfolding deletedEach
+  all-sifted =
+      let z : n - i ≡ 0 = omega arith in
+      sym (ap (λ (k : ℕ). deletedEach slot mask value k (underway t (amid level n b l i o) run other)) z)
+      ∙ (v .is
+      ∙ (λ x. deletedEach slot mask value (sym (whole-rest w) x) (begun-is x)))
 
-    abbrev result : Buffer
-    result = atPlaces 0 (d .«out_len» .0) 0 (withLimitsOf (d .limits) b)
+  all-done : Acts (λ a. keptRun (deletedEach slot mask value (length (a .rest)) a)) (running level n l₀ b) run₀ other₀ (running level o l b) run other
+  all-done = record {
+    is = left-is ∙ ap (λ (a : Account ℕ). keptRun a) all-sifted;
+    size = v .size;
+    side = refl;
+    run-beyond = v .run-beyond;
+    other-beyond = v .other-beyond;
+    held = held-lengths (running level o l b) run other run₀ other₀ (sym lr) (sym lo) (left-whole .held);
+  }
 
-    result-held : Held result run other
-    unfolding atPlaces withLimitsOf
-    result-held = record {
-      idx-in = omega arith;
-      len-in = u .held .out-in;
-      out-in = omega arith;
-      all-in = u .held .all-in;
-      most = w .held .most;
-      same = w .held .same;
-      whole = w .held .whole;
-      behind = λ p s. omega arith;
-      none = λ p. refl;
-    }
+pub sifting-done : {slot mask value : ℕ} {t : Bool} {level n : ℕ} {l₀ l : Limits} {run₀ other₀ run other : List ℕ} {i o : ℕ} {k : Kept} → SiftingOf slot mask value t level n l₀ run₀ other₀ l run other i o → n ≤ i
+    → k ≡ record { len = o; limits = l } → Sifts slot mask value t level n l₀ k run₀ other₀ run other
+sifting-done v end ek = record { acts = λ b w et. rw ek (all-done w et (v .each b w) (v .same-run) (v .same-other) end) }
 
-    result-whole : WholeInput result run′ other′
-    unfolding atPlaces withLimitsOf
-    result-whole = record { held = held-lengths result run other run′ other′ lr lo result-held; plain = w .plain; clean = w .clean; start = refl }
-
-    same-size : d .limits .allocated ≡ b .limits .allocated
-    unfolding openedBuffer
-    same-size = u .size ∙ ap (λ (x : Buffer). x .limits .allocated) eq
-
-    result-is : accountOf result run′ other′ ≡ keptRun (underway (positionsPhase (b .phase)) d run′ other′)
-    unfolding keptRun underway atPlaces withLimitsOf withGone stateOf openedBuffer
-    result-is =
-        let p : phaseOf (positionsPhase (b .phase)) ≡ b .phase = phase-known (b .phase) (w .plain) (w .clean) in
-        let s : pairing (positionsPhase (b .phase)) (glyphs run′) (placements other′) ≡ shown (b .phase) run′ other′ = shown-known (b .phase) run′ other′ (w .plain) (w .clean) in
-        let el : b .level ≡ d .level = sym (level-is q (d .idx .0) (q .len .0) (d .«out_len» .0) (u .places) ∙ ap (λ (x : Buffer). x .level) eq) in
-        let ew : b .wants ≡ d .wants = sym (wants-is q (d .idx .0) (q .len .0) (d .«out_len» .0) (u .places) ∙ ap (λ (x : Buffer). x .wants) eq) in
-        account-whole result-whole
-        ∙ same-account refl refl (ap (take (d .«out_len» .0)) (sym s)) (λ x. record { phase = sym p x; gone = whole-gone result-whole x; limits = d .limits; level = readLevel (el x); wants = ew x })
-
-    pub delete-each-acts : {r : Buffer} {l : Buffer} → l ≡ withLimitsOf (d .limits) b → r ≡ atPlaces 0 (d .«out_len» .0) 0 l → Acts (λ a. keptRun (deletedEach slot mask value (length (a .rest)) a)) b run other r run′ other′
-    unfolding atPlaces withLimitsOf openedBuffer
-    delete-each-acts el er =
-        let m : (q .limits .allocated) ≡ b .limits .allocated = ap (λ (x : Buffer). x .limits .allocated) eq in
-        rw (er, el) (record {
-          is = result-is ∙ ap (λ (a : Account ℕ). keptRun a) sifted-is;
-          size = same-size;
-          side = refl;
-          run-beyond = subst (λ (n : ℕ). wordsFrom n run′ ≡ wordsFrom n run) m (u .run-beyond);
-          other-beyond = subst (λ (n : ℕ). wordsFrom n other′ ≡ wordsFrom n other) m (u .other-beyond);
-          held = result-held;
-        })
-
--- ---- the tests of the call
+-- ---- the call
 module _ (slot mask value : ℕ) (a : Account ℕ) where
-  pub inplace-not-whole : notWhole a ≡ true → deleteGlyphsInplace slot mask value a ≡ refused WrongPhase
+  inplace-not-whole : notWhole a ≡ true → deleteGlyphsInplace slot mask value a ≡ refused WrongPhase
   unfolding deleteGlyphsInplace refuse_when_else_
   inplace-not-whole h = rw h
 
@@ -191,10 +193,29 @@ module _ (slot mask value : ℕ) (a : Account ℕ) where
   unfolding deleteGlyphsInplace refuse_when_else_
   inplace-accepts h k = rw (h, k)
 
-module _ (slot mask value : ℕ) {b : Buffer} {run other : List ℕ} {r : Reply} (w : WholeInput b run other) where
-  pub inplace-in-slot : 1 < slot → r ≡ reply b (No BadOperand) → MeetsIn (λ capacity a. deleteGlyphsInplace slot mask value a) b run other r run other
-  inplace-in-slot h er = in-refused BadOperand (inplace-slot slot mask value _ (not-not-whole w) (lt-ltb 1 slot h)) (w .held) er
+-- the state that it leaves
+abbrev left : Kept → Buffer → Buffer
+left k x = record { idx = x .idx; len = record { 0 = k .len }; «out_len» = x .«out_len»; limits = k .limits; wants = x .wants; phase = x .phase; swapped = x .swapped; «have_separate_output» = x .«have_separate_output»; level = x .level }
 
-  pub inplace-in : {f : Buffer} {run′ other′ : List ℕ} → slot ≤ 1 → Acts (λ a. keptRun (deletedEach slot mask value (length (a .rest)) a)) b run other f run′ other′ → r ≡ reply f Done
-      → MeetsIn (λ capacity a. deleteGlyphsInplace slot mask value a) b run other r run′ other′
-  inplace-in h u er = in-acts u (inplace-accepts slot mask value _ (not-not-whole w) (le-ltb 1 slot h)) er
+settles-kept : (b : Buffer) (k : Kept) → settled b (keptWith k (leaving b true Done)) ≡ reply (left k b) Done
+unfolding settled settledBuffer withLimitsOf atPlaces
+settles-kept b k = refl
+
+module _ {slot : ℕ} (mask value : ℕ) {b : Buffer} where
+  module _ {t : Bool} (et : t ≡ positionsPhase (b .phase)) where
+    sifts-acts : {k : Kept} {run other run′ other′ : List ℕ} → WholeInput b run other → Sifts slot mask value t (b .level) (b .len .0) (b .limits) k run other run′ other′
+        → Acts (λ a. keptRun (deletedEach slot mask value (length (a .rest)) a)) b run other (left k b) run′ other′
+    sifts-acts {k} {run} {other} {run′} {other′} w u =
+        subst (λ (x : Buffer). Acts (λ a. keptRun (deletedEach slot mask value (length (a .rest)) a)) x run other (left k x) run′ other′) (running-is b w)
+        (u .acts b (subst (λ (x : Buffer). WholeInput x run other) (sym (running-is b w)) w) et)
+
+    inplace-on : OnKeyed Kept keptWith (λ capacity a. deleteGlyphsInplace slot mask value a) slot b (Sifts slot mask value t (b .level) (b .len .0) (b .limits))
+    inplace-on = record {
+      whole = record { refuses = λ capacity a h. inplace-not-whole slot mask value a h };
+      refuses = λ capacity a h k. inplace-slot slot mask value a h k;
+      done = λ k run other run′ other′ w h lr lo c. in-acts (sifts-acts w c) (inplace-accepts slot mask value _ (not-not-whole w) h) (settles-kept b k);
+    }
+
+    pub inplace-decided : {f s : List ℕ} {v : Verdict} → TakesKeyed slot b f s v
+        → DecidedBy Kept keptWith (λ capacity a. deleteGlyphsInplace slot mask value a) b f s v (RunRoom (b .len .0) f s) (Sifts slot mask value t (b .level) (b .len .0) (b .limits))
+    inplace-decided w = keyed-decided inplace-on w

@@ -1,19 +1,19 @@
--- Call 21, below its shell: what becomes of one glyph, on the account of the call.
-use mathlib.Core.{Path._≡_, Path.refl, Path.sym, Path.ap, Path._∙_, Bool.Bool, Bool.true, Bool.false, Bool.cond, Bool.false≢true, List.List, List._∷_, List._++_}
+-- Call 21 under way: the glyphs kept so far lie at the front of the run, as an output, and the cursor is at the next. What becomes of that one.
+use mathlib.Core.{Path._≡_, Path.refl, Path.sym, Path.ap, Path._∙_, Bool.Bool, Bool.true, Bool.false, Bool.cond, Bool.false≢true, List.List, List.[], List._∷_, List._++_}
 use Prim.Native.Nat.{ℕ, suc, _+_, _-_, _≤_, _<_}
 use native.Mathlib.Omega.{arith}
 use borrow.Author.Tests.{eq-eqb, ne-eqb}
 use lib.{ListN.length, ListN.take, ListN.drop, ListN.getD, ListN.set, Seq.slice, Seq.slice-cons, Seq.set-getD, Seq.drop-drop}
-use Rattle.records.specs.{Phase, Plain, Positions, Position, Glyphs.Glyph, Glyphs.blank, Glyphs.key, Glyphs.zeroPosition, Ranges.infos, Ranges.is, View.glyphs, View.placements, View.zeroGlyph}
+use Rattle.records.specs.{Phase, Plain, Output, Positions, Position, Limits, Glyphs.Glyph, Glyphs.blank, Glyphs.key, Glyphs.zeroPosition, Ranges.infos, Ranges.is, View.glyphs, View.placements, View.zeroGlyph, View.wordsFrom}
 use Rattle.records.proofs.View.{glyphs-same, placements-glyphs, whole-same, beyond-glyphs, beyond-placements}
-use Rattle.lists.specs.declared.{Buffer.Buffer}
-use Rattle.lists.specs.{Account.readLevel, Account.Account, Account.outputPhase, Account.inPhase, Account.withGone, Copied.copied, State.accountOf, State.Held, States.atPlaces, States.withLimitsOf}
-use Rattle.lists.proofs.{Accounts.held-lengths, Copying.copied-none, Copying.copied-more, Copying.take-copied, Copying.drop-copied, Copying.take-range, Copying.range-same}
-use Rattle.edits.specs.{Acts.Acts, Deletes.Deletable, Deleting.current, Deleting.deleted, Deleting.kept, Underway.pairing, Underway.underway, Underway.sifted, Underway.Siftable, Underway.Sifts}
-use Rattle.lists.proofs.Outputs.{output, output-account}
 use Rattle.records.proofs.Pairs.{key-alone}
+use Rattle.lists.specs.declared.{Buffer.Buffer}
+use Rattle.lists.specs.{Account.readLevel, Account.Account, Account.inPhase, Account.withGone, Copied.copied, State.Held, States.atPlaces, States.withLimitsOf}
+use Rattle.lists.proofs.{Copying.copied-none, Copying.copied-more, Copying.take-copied, Copying.drop-copied, Copying.take-range, Copying.range-same}
+use Rattle.lists.proofs.Outputs.{output, output-account}
+use Rattle.edits.specs.{Acts.Acts, Deletes.Deletes, Deletes.MoveRoom, Deletes.MovesGlyph, Deleting.current, Deleting.deleted, Deleting.kept, MergeActs.mergeLimits, Wholes.RunRoom}
 use Rattle.edits.proofs.Holding.{same-account}
-use Rattle.edits.proofs.Pairings.{pairing-take, pairing-slice, pairing-first, pairing-set, length-pairing, beside, deleted-beside}
+use Rattle.edits.proofs.Pairings.{pairing, pairing-take, pairing-slice, pairing-first, pairing-set, length-pairing, beside, deleted-beside}
 
 -- ---- one element in the place of another, at or before it
 module _ {A : Type 0} (z : A) (l : List A) (i k : ℕ) (hi : i < length l) (o : k ≤ i) where
@@ -32,21 +32,21 @@ module _ {A : Type 0} (z : A) (l : List A) (i k : ℕ) (hi : i < length l) (o : 
   set-beyond : (m : ℕ) → k < m → drop m (set l k (getD l i z)) ≡ drop m l
   set-beyond m h = rw set-copied (drop-copied l l k i 1 m (omega arith) (omega arith) (omega arith))
 
--- ---- the account of the call, from that of the buffer
+-- ---- a buffer under way, at i of n glyphs, of which o are kept
+abbrev pub amid : (level n : ℕ) → Buffer → Limits → (i o : ℕ) → Buffer
+amid level n b l i o = record { idx = record { 0 = i }; len = record { 0 = n }; «out_len» = record { 0 = o }; limits = l; wants = b .wants; phase = Output; swapped = b .swapped; «have_separate_output» = false; level = level }
+
 abbrev pub phaseOf : Bool → Phase
 phaseOf t = cond t Positions Plain
 
-module _ {b : Buffer} {run other : List ℕ} (v : Siftable b run other) where
-  pub sift-low : b .«out_len» .0 ≤ b .idx .0
-  sift-low = v .held .behind (v .output) (v .within)
-
-  pub sift-deletable : b .idx .0 < b .len .0 → Deletable b run other
-  sift-deletable h = record { held = v .held; output = v .output; some = h }
-
-  sift-account : accountOf b run other ≡ output b (b .idx .0) (take (b .«out_len» .0) (glyphs run)) (slice (b .idx .0) (b .len .0) (glyphs run))
-  sift-account =
-      output-account b run other (v .output)
-      ∙ ap (λ (x : Bool). output b (b .idx .0) (take (b .«out_len» .0) (cond x (glyphs other) (glyphs run))) (slice (b .idx .0) (b .len .0) (glyphs run))) (v .within)
+-- the account of the call: its phase is that of the run, and the glyphs deleted are gone
+unfoldable pub underway : Bool → Buffer → (run other : List ℕ) → Account ℕ
+underway positions b run other = record {
+  done = take (b .«out_len» .0) (pairing positions (glyphs run) (placements other));
+  passed = [];
+  rest = slice (b .idx .0) (b .len .0) (pairing positions (glyphs run) (placements other));
+  state = record { phase = phaseOf positions; gone = b .idx .0 - b .«out_len» .0; limits = b .limits; level = readLevel (b .level); wants = b .wants };
+}
 
 underway-beside : (t : Bool) (b : Buffer) (run other : List ℕ)
     → underway t b run other ≡ beside t (phaseOf t) (b .idx .0 - b .«out_len» .0) (take (b .«out_len» .0) (placements other)) (slice (b .idx .0) (b .len .0) (placements other)) (output b (b .idx .0) (take (b .«out_len» .0) (glyphs run)) (slice (b .idx .0) (b .len .0) (glyphs run)))
@@ -54,76 +54,40 @@ unfolding underway beside inPhase withGone
 underway-beside t b run other =
     same-account (pairing-take t (glyphs run) (placements other) (b .«out_len» .0)) refl (pairing-slice t (glyphs run) (placements other) (b .idx .0) (b .len .0)) refl
 
--- other places and limits, and what stays
-module _ (b : Buffer) {r : Buffer} (i l o : ℕ) (e : r ≡ atPlaces i l o (withLimitsOf (r .limits) b)) where
-  idx-is : r .idx .0 ≡ i
-  unfolding atPlaces
-  idx-is = ap (λ (x : Buffer). x .idx .0) e
+-- what becomes of the glyph at the cursor
+unfoldable pub sifted : ℕ → ℕ → ℕ → Account ℕ → Account ℕ
+sifted slot mask v a = cond (is v (key slot mask (current a))) (deleted a) (kept a)
 
-  pub len-is : r .len .0 ≡ l
-  unfolding atPlaces
-  len-is = ap (λ (x : Buffer). x .len .0) e
-
-  out-is : r .«out_len» .0 ≡ o
-  unfolding atPlaces
-  out-is = ap (λ (x : Buffer). x .«out_len» .0) e
-
-  phase-is : r .phase ≡ b .phase
-  unfolding atPlaces withLimitsOf
-  phase-is = ap (λ (x : Buffer). x .phase) e
-
-  pub level-is : r .level ≡ b .level
-  unfolding atPlaces withLimitsOf
-  level-is = ap (λ (x : Buffer). x .level) e
-
-  pub wants-is : r .wants ≡ b .wants
-  unfolding atPlaces withLimitsOf
-  wants-is = ap (λ (x : Buffer). x .wants) e
-
-  within-is : r .«have_separate_output» ≡ b .«have_separate_output»
-  unfolding atPlaces withLimitsOf
-  within-is = ap (λ (x : Buffer). x .«have_separate_output») e
-
-  pub still-siftable : {run other run′ other′ : List ℕ} → Siftable b run other → Held r run other → length run′ ≡ length run → length other′ ≡ length other → Siftable r run′ other′
-  still-siftable {run} {other} {run′} {other′} v h lr lo = record { held = held-lengths r run other run′ other′ lr lo h; output = ap outputPhase phase-is ∙ v .output; within = within-is ∙ v .within }
+-- h on the account of the call, nothing beyond the allocated size
+pub record Onward (h : Account ℕ → Account ℕ) (t : Bool) (b : Buffer) (run other : List ℕ) (r : Buffer) (run′ other′ : List ℕ) : Type 0 where
+  pub is : underway t r run′ other′ ≡ h (underway t b run other)
+  pub size : r .limits .allocated ≡ b .limits .allocated
+  pub run-beyond : wordsFrom (b .limits .allocated) run′ ≡ wordsFrom (b .limits .allocated) run
+  pub other-beyond : wordsFrom (b .limits .allocated) other′ ≡ wordsFrom (b .limits .allocated) other
+  pub held : Held r run other
 
 -- h and h′ that do the same
-sifts-as : {h h′ : Account ℕ → Account ℕ} {t : Bool} {b r : Buffer} {run other run′ other′ : List ℕ} → Sifts h t b run other r run′ other′ → h (underway t b run other) ≡ h′ (underway t b run other) → Sifts h′ t b run other r run′ other′
-sifts-as u e = record { is = u .is ∙ e; size = u .size; places = u .places; run-beyond = u .run-beyond; other-beyond = u .other-beyond; held = u .held }
+onward-as : {h h′ : Account ℕ → Account ℕ} {t : Bool} {b r : Buffer} {run other run′ other′ : List ℕ} → Onward h t b run other r run′ other′ → h (underway t b run other) ≡ h′ (underway t b run other) → Onward h′ t b run other r run′ other′
+onward-as u e = record { is = u .is ∙ e; size = u .size; run-beyond = u .run-beyond; other-beyond = u .other-beyond; held = u .held }
 
 -- ---- the glyph at the cursor is deleted
-module _ (t : Bool) {b : Buffer} {run other : List ℕ} (v : Siftable b run other) where
-  module _ {r : Buffer} {run′ other′ : List ℕ} (u : Acts (λ a. deleted a) b run other r run′ other′) (e : r ≡ atPlaces (b .idx .0 + 1) (b .len .0) (b .«out_len» .0) (withLimitsOf (r .limits) b))
-      (k : b .«have_separate_output» ≡ false → other′ ≡ other) (lr : length run′ ≡ length run) (lo : length other′ ≡ length other) where
-    delete-is : underway t r run′ other′ ≡ deleted (underway t b run other)
-    delete-is =
-        let i : ℕ = b .idx .0 in
-        let o : ℕ = b .«out_len» .0 in
-        let l : ℕ = b .len .0 in
-        let ps : List Position = placements other in
-        let ei : r .idx .0 ≡ i + 1 = idx-is b (b .idx .0 + 1) (b .len .0) (b .«out_len» .0) e in
-        let el : r .len .0 ≡ l = len-is b (b .idx .0 + 1) (b .len .0) (b .«out_len» .0) e in
-        let eo : r .«out_len» .0 ≡ o = out-is b (b .idx .0 + 1) (b .len .0) (b .«out_len» .0) e in
-        let ep : placements other′ ≡ ps = ap placements (k (v .within)) in
-        let low : o ≤ i = sift-low v in
-        let gone : r .idx .0 - r .«out_len» .0 ≡ i - o + 1 = omega (arith, ei, eo, low) in
-        let done : take (r .«out_len» .0) (placements other′) ≡ take o ps = λ x. take (eo x) (ep x) in
-        let rest : slice (r .idx .0) (r .len .0) (placements other′) ≡ drop 1 (slice i l ps) = (λ x. slice (ei x) (el x) (ep x)) ∙ sym (drop-drop 1 i (take l ps)) in
-        let here : output r (r .idx .0) (take (r .«out_len» .0) (glyphs run′)) (slice (r .idx .0) (r .len .0) (glyphs run′)) ≡ deleted (output b i (take o (glyphs run)) (slice i l (glyphs run))) =
-        sym (sift-account (still-siftable b (b .idx .0 + 1) (b .len .0) (b .«out_len» .0) e v (u .held) lr lo)) ∙ (u .is ∙ ap (λ (a : Account ℕ). deleted a) (sift-account v)) in
-        underway-beside t r run′ other′
-        ∙ ((λ x. beside t (phaseOf t) (gone x) (done x) (rest x) (here x))
-        ∙ (sym (deleted-beside t (phaseOf t) (take o ps) (slice i l ps) (i - o) (take o (glyphs run)) (slice i l (glyphs run)) _) ∙ ap (λ (a : Account ℕ). deleted a) (sym (underway-beside t b run other))))
+module _ (t : Bool) {level n i o : ℕ} {l l′ : Limits} (b : Buffer) {run other run′ other′ : List ℕ} (low : o ≤ i) (u : Acts (λ a. deleted a) (amid level n b l i o) run other (amid level n b l′ (i + 1) o) run′ other′) (k : other′ ≡ other) where
+  delete-is : underway t (amid level n b l′ (i + 1) o) run′ other′ ≡ deleted (underway t (amid level n b l i o) run other)
+  delete-is =
+      let x : Buffer = amid level n b l i o in
+      let r : Buffer = amid level n b l′ (i + 1) o in
+      let ps : List Position = placements other in
+      let gone : i + 1 - o ≡ i - o + 1 = omega (arith, low) in
+      let done : take o (placements other′) ≡ take o ps = ap (λ (q : List ℕ). take o (placements q)) k in
+      let rest : slice (i + 1) n (placements other′) ≡ drop 1 (slice i n ps) = ap (λ (q : List ℕ). slice (i + 1) n (placements q)) k ∙ sym (drop-drop 1 i (take n ps)) in
+      let here : output r (i + 1) (take o (glyphs run′)) (slice (i + 1) n (glyphs run′)) ≡ deleted (output x i (take o (glyphs run)) (slice i n (glyphs run))) =
+      sym (output-account r run′ other′ refl) ∙ (u .is ∙ ap (λ (a : Account ℕ). deleted a) (output-account x run other refl)) in
+      underway-beside t r run′ other′
+      ∙ ((λ z. beside t (phaseOf t) (gone z) (done z) (rest z) (here z))
+      ∙ (sym (deleted-beside t (phaseOf t) (take o ps) (slice i n ps) (i - o) (take o (glyphs run)) (slice i n (glyphs run)) _) ∙ ap (λ (a : Account ℕ). deleted a) (sym (underway-beside t x run other))))
 
-    delete-sifts : Sifts (λ a. deleted a) t b run other r run′ other′
-    delete-sifts = record {
-      is = delete-is;
-      size = u .size;
-      places = e ∙ (λ x. atPlaces (sym (idx-is b (b .idx .0 + 1) (b .len .0) (b .«out_len» .0) e) x) (b .len .0) (sym (out-is b (b .idx .0 + 1) (b .len .0) (b .«out_len» .0) e) x) (withLimitsOf (r .limits) b));
-      run-beyond = u .run-beyond;
-      other-beyond = u .other-beyond;
-      held = u .held;
-    }
+  delete-onward : Onward (λ a. deleted a) t (amid level n b l i o) run other (amid level n b l′ (i + 1) o) run′ other′
+  delete-onward = record { is = delete-is; size = u .size; run-beyond = u .run-beyond; other-beyond = u .other-beyond; held = u .held }
 
 -- ---- the glyph at the cursor is kept
 module _ (t : Bool) (ps : List Position) (i k : ℕ) where
@@ -141,107 +105,94 @@ module _ (t : Bool) (ps : List Position) (i k : ℕ) where
       pick true = sym (set-getD ps k zeroPosition)
       pick false = refl
 
-  pub glyph-same : (l : List (Glyph ℕ)) → i ≡ k → (l ≡ set l k (getD l i zeroGlyph)) × (ps ≡ cond t (set ps k (getD ps i zeroPosition)) ps)
-  glyph-same l e = (rw e (sym (set-getD l k zeroGlyph)), position-same e)
+module _ {t : Bool} {i k : ℕ} {run other : List ℕ} where
+  pub glyph-same : i ≡ k → MovesGlyph t i k run other run other
+  glyph-same e = record { run-is = rw e (sym (set-getD (glyphs run) k zeroGlyph)); other-is = position-same t (placements other) i k e }
 
-pub glyph-moved : (l : List (Glyph ℕ)) (i k : ℕ) {m : List (Glyph ℕ)} {g : Glyph ℕ} → g ≡ getD l i zeroGlyph → m ≡ set l k g → m ≡ set l k (getD l i zeroGlyph)
-glyph-moved l i k eg e = e ∙ ap (set l k) eg
+  pub glyph-moved : {run′ other′ : List ℕ} (g : Glyph ℕ) → g ≡ getD (glyphs run) i zeroGlyph → glyphs run′ ≡ set (glyphs run) k g → placements other′ ≡ cond t (set (placements other) k (getD (placements other) i zeroPosition)) (placements other) → MovesGlyph t i k run other run′ other′
+  glyph-moved g eg e eo = record { run-is = e ∙ ap (set (glyphs run) k) eg; other-is = eo }
 
-module _ {b : Buffer} {run other : List ℕ} (v : Siftable b run other) (some : b .idx .0 < b .len .0) where
-  room : (b .idx .0 < length (glyphs run)) × (b .idx .0 < length (placements other))
-  room =
-      let same : length (glyphs run) ≡ length (glyphs other) = glyphs-same run other (v .held .same) in
+-- room for it
+module _ {n i o : ℕ} {run other : List ℕ} (w : RunRoom n run other) (low : o ≤ i) (some : i < n) where
+  pub keep-room : MoveRoom i o run other
+  keep-room =
+      let same : length (glyphs run) ≡ length (glyphs other) = glyphs-same run other (w .same) in
       let many : length (placements other) ≡ length (glyphs other) = placements-glyphs other in
-      (omega (arith, v .held .len-in, v .held .all-in, some), omega (arith, v .held .len-in, v .held .all-in, some))
+      record { from = omega (arith, w .fits); to = omega (arith, w .fits); from-place = omega (arith, w .fits); to-place = omega (arith, w .fits) }
 
-  pub keep-room : (b .idx .0 < length (glyphs run)) × (b .«out_len» .0 < length (glyphs run)) × (b .idx .0 < length (placements other)) × (b .«out_len» .0 < length (placements other))
-  keep-room = (room .0, omega (arith, sift-low v, room .0), room .1, omega (arith, sift-low v, room .1))
+-- a glyph at the cursor
+pub record Next (level n : ℕ) (l : Limits) (i o : ℕ) (b : Buffer) (run other : List ℕ) : Type 0 where
+  pub room : RunRoom n run other
+  pub low : o ≤ i
+  pub some : i < n
+  pub held : Held (amid level n b l i o) run other
 
-module _ (t : Bool) {b : Buffer} {run other : List ℕ} (v : Siftable b run other) (some : b .idx .0 < b .len .0) where
-  module _ {r : Buffer} (run′ other′ : List ℕ) (er : glyphs run′ ≡ set (glyphs run) (b .«out_len» .0) (getD (glyphs run) (b .idx .0) zeroGlyph)) (lr : length run′ ≡ length run)
-      (eo : placements other′ ≡ cond t (set (placements other) (b .«out_len» .0) (getD (placements other) (b .idx .0) zeroPosition)) (placements other)) (lo : length other′ ≡ length other)
-      (e : r ≡ atPlaces (b .idx .0 + 1) (b .len .0) (b .«out_len» .0 + 1) b) where
-    keep-is : underway t (atPlaces (b .idx .0 + 1) (b .len .0) (b .«out_len» .0 + 1) b) run′ other′ ≡ kept (underway t b run other)
-    unfolding underway kept atPlaces
-    keep-is =
-        let i : ℕ = b .idx .0 in
-        let o : ℕ = b .«out_len» .0 in
-        let n : ℕ = b .len .0 in
-        let l : List (Glyph ℕ) = pairing t (glyphs run) (placements other) in
-        let low : o ≤ i = sift-low v in
-        let here : pairing t (glyphs run′) (placements other′) ≡ set l o (getD l i zeroGlyph) =
-        (λ x. pairing t (er x) (eo x)) ∙ pairing-set t (glyphs run) (placements other) i o (room v some .0) (room v some .1) (keep-room v some .1) (keep-room v some .3) in
-        let inside : i < length l = rw (length-pairing t (glyphs run) (placements other)) (room v some .0) in
-        let gone : i + 1 - (o + 1) ≡ i - o = omega arith in
-        let done : take (o + 1) (pairing t (glyphs run′) (placements other′)) ≡ take o l ++ take 1 (slice i n l) = ap (take (o + 1)) here ∙ set-done zeroGlyph l i o inside low n some in
-        let rest : slice (i + 1) n (pairing t (glyphs run′) (placements other′)) ≡ drop 1 (slice i n l) = ap (slice (i + 1) n) here ∙ set-rest zeroGlyph l i o inside low n in
-        same-account done refl rest (λ x. record { phase = phaseOf t; gone = gone x; limits = b .limits; level = readLevel (b .level); wants = b .wants })
+module _ (t : Bool) {level n i o : ℕ} {l : Limits} {b : Buffer} {run other run′ other′ : List ℕ} (v : Next level n l i o b run other) (u : MovesGlyph t i o run other run′ other′) (lr : length run′ ≡ length run) (lo : length other′ ≡ length other) where
+  inside : MoveRoom i o run other
+  inside = keep-room (v .room) (v .low) (v .some)
 
-    kept-run : drop (b .limits .allocated) (glyphs run′) ≡ drop (b .limits .allocated) (glyphs run)
-    kept-run = ap (drop (b .limits .allocated)) er ∙ set-beyond zeroGlyph (glyphs run) (b .idx .0) (b .«out_len» .0) (room v some .0) (sift-low v) (b .limits .allocated) (omega (arith, sift-low v, some, v .held .len-in))
+  keep-is : underway t (amid level n b l (i + 1) (o + 1)) run′ other′ ≡ kept (underway t (amid level n b l i o) run other)
+  unfolding underway kept
+  keep-is =
+      let m : List (Glyph ℕ) = pairing t (glyphs run) (placements other) in
+      let here : pairing t (glyphs run′) (placements other′) ≡ set m o (getD m i zeroGlyph) =
+      (λ x. pairing t (u .run-is x) (u .other-is x)) ∙ pairing-set t (glyphs run) (placements other) i o (inside .from) (inside .from-place) (inside .to) (inside .to-place) in
+      let within : i < length m = rw (length-pairing t (glyphs run) (placements other)) (inside .from) in
+      let gone : i + 1 - (o + 1) ≡ i - o = omega arith in
+      let done : take (o + 1) (pairing t (glyphs run′) (placements other′)) ≡ take o m ++ take 1 (slice i n m) = ap (take (o + 1)) here ∙ set-done zeroGlyph m i o within (v .low) n (v .some) in
+      let rest : slice (i + 1) n (pairing t (glyphs run′) (placements other′)) ≡ drop 1 (slice i n m) = ap (slice (i + 1) n) here ∙ set-rest zeroGlyph m i o within (v .low) n in
+      same-account done refl rest (λ x. record { phase = phaseOf t; gone = gone x; limits = l; level = readLevel level; wants = b .wants })
 
-    kept-other : drop (b .limits .allocated) (placements other′) ≡ drop (b .limits .allocated) (placements other)
-    kept-other = ap (drop (b .limits .allocated)) eo ∙ pick t
-      where
-        pick : (x : Bool) → drop (b .limits .allocated) (cond x (set (placements other) (b .«out_len» .0) (getD (placements other) (b .idx .0) zeroPosition)) (placements other)) ≡ drop (b .limits .allocated) (placements other)
-        pick true = set-beyond zeroPosition (placements other) (b .idx .0) (b .«out_len» .0) (room v some .1) (sift-low v) (b .limits .allocated) (omega (arith, sift-low v, some, v .held .len-in))
-        pick false = refl
+  kept-run : drop (l .allocated) (glyphs run′) ≡ drop (l .allocated) (glyphs run)
+  kept-run = ap (drop (l .allocated)) (u .run-is) ∙ set-beyond zeroGlyph (glyphs run) i o (inside .from) (v .low) (l .allocated) (omega (arith, v .low, v .some, v .held .len-in))
 
-    keep-held : Held (atPlaces (b .idx .0 + 1) (b .len .0) (b .«out_len» .0 + 1) b) run other
-    unfolding atPlaces
-    keep-held = record {
-      idx-in = omega (arith, some);
-      len-in = v .held .len-in;
-      out-in = omega (arith, sift-low v, some, v .held .len-in);
-      all-in = v .held .all-in;
-      most = v .held .most;
-      same = v .held .same;
-      whole = v .held .whole;
-      behind = λ p s. omega (arith, sift-low v);
-      none = λ p. absurd (false≢true (sym p ∙ v .output));
-    }
+  kept-other : drop (l .allocated) (placements other′) ≡ drop (l .allocated) (placements other)
+  kept-other = ap (drop (l .allocated)) (u .other-is) ∙ pick t
+    where
+      pick : (x : Bool) → drop (l .allocated) (cond x (set (placements other) o (getD (placements other) i zeroPosition)) (placements other)) ≡ drop (l .allocated) (placements other)
+      pick true = set-beyond zeroPosition (placements other) i o (inside .from-place) (v .low) (l .allocated) (omega (arith, v .low, v .some, v .held .len-in))
+      pick false = refl
 
-    pub keep-sifts : (Sifts (λ a. kept a) t b run other r run′ other′) × (r .idx .0 ≡ b .idx .0 + 1)
-    unfolding atPlaces withLimitsOf
-    keep-sifts =
-        let m : ℕ = b .limits .allocated in
-        rw e (
-          record {
-            is = keep-is;
-            size = refl;
-            places = refl;
-            run-beyond = sym (beyond-glyphs m run run′ (v .held .whole) (sym lr) (sym kept-run));
-            other-beyond = sym (beyond-placements m other other′ (whole-same run other (v .held .same) (v .held .whole)) (sym lo) (sym kept-other));
-            held = keep-held;
-          },
-          refl,
-        )
+  keep-held : Held (amid level n b l (i + 1) (o + 1)) run other
+  keep-held = record {
+    idx-in = omega (arith, v .some);
+    len-in = v .held .len-in;
+    out-in = omega (arith, v .low, v .some, v .held .len-in);
+    all-in = v .held .all-in;
+    most = v .held .most;
+    same = v .held .same;
+    whole = v .held .whole;
+    behind = λ p s. omega (arith, v .low);
+    none = λ p. absurd (false≢true (sym p));
+  }
+
+  keep-onward : Onward (λ a. kept a) t (amid level n b l i o) run other (amid level n b l (i + 1) (o + 1)) run′ other′
+  keep-onward = record {
+    is = keep-is;
+    size = refl;
+    run-beyond = sym (beyond-glyphs (l .allocated) run run′ (v .held .whole) (sym lr) (sym kept-run));
+    other-beyond = sym (beyond-placements (l .allocated) other other′ (whole-same run other (v .held .same) (v .held .whole)) (sym lo) (sym kept-other));
+    held = keep-held;
+  }
 
 -- ---- one or the other
-module _ (t : Bool) (slot mask value : ℕ) {b : Buffer} {run other : List ℕ} (v : Siftable b run other) (some : b .idx .0 < b .len .0) where
-  key-here : key slot mask (current (underway t b run other)) ≡ key slot mask (getD (glyphs run) (b .idx .0) zeroGlyph .info)
+module _ (t : Bool) (slot mask value : ℕ) {level n i o : ℕ} {l : Limits} {b : Buffer} {run other : List ℕ} (v : Next level n l i o b run other) where
+  key-here : key slot mask (current (underway t (amid level n b l i o) run other)) ≡ key slot mask (getD (glyphs run) i zeroGlyph .info)
   unfolding current underway infos
   key-here =
-      let i : ℕ = b .idx .0 in
-      let n : ℕ = b .len .0 in
-      let l : List (Glyph ℕ) = glyphs run in
-      let one : slice i n l ≡ getD l i zeroGlyph ∷ slice (suc i) n l = slice-cons i n l zeroGlyph some (omega (arith, v .held .len-in, v .held .all-in)) in
-      ap (λ (x : List (Glyph ℕ)). key slot mask (getD (infos x) 0 (blank 0))) (pairing-slice t l (placements other) i n)
-      ∙ (pairing-first t (slice i n l) (slice i n (placements other)) (key slot mask) (key-alone slot mask)
+      let m : List (Glyph ℕ) = glyphs run in
+      let one : slice i n m ≡ getD m i zeroGlyph ∷ slice (suc i) n m = slice-cons i n m zeroGlyph (v .some) (omega (arith, v .some, v .room .fits)) in
+      ap (λ (x : List (Glyph ℕ)). key slot mask (getD (infos x) 0 (blank 0))) (pairing-slice t m (placements other) i n)
+      ∙ (pairing-first t (slice i n m) (slice i n (placements other)) (key slot mask) (key-alone slot mask)
       ∙ ap (λ (x : List (Glyph ℕ)). key slot mask (getD (infos x) 0 (blank 0))) one)
 
-  module _ {k : ℕ} (ek : k ≡ key slot mask (getD (glyphs run) (b .idx .0) zeroGlyph .info)) where
-    sifts-deleted : k ≡ value → deleted (underway t b run other) ≡ sifted slot mask value (underway t b run other)
+  module _ {k : ℕ} (ek : k ≡ key slot mask (getD (glyphs run) i zeroGlyph .info)) where
+    pub one-deleted : {merged : Bool} {run′ other′ : List ℕ} → k ≡ value → Deletes false level i n o merged run other run′ other′ → Onward (sifted slot mask value) t (amid level n b l i o) run other (amid level n b (mergeLimits merged 2 l) (i + 1) o) run′ other′
+    unfolding sifted atPlaces withLimitsOf
+    one-deleted h d =
+        onward-as (delete-onward t b (v .low) (d .acts (amid level n b l i o) (record { held = v .held; output = refl; some = v .some })) (d .own refl))
+        (rw (eq-eqb (key slot mask (current (underway t (amid level n b l i o) run other))) value (key-here ∙ (sym ek ∙ h))))
+
+    pub one-kept : {run′ other′ : List ℕ} → (k ≡ value → ⊥) → MovesGlyph t i o run other run′ other′ → length run′ ≡ length run → length other′ ≡ length other → Onward (sifted slot mask value) t (amid level n b l i o) run other (amid level n b l (i + 1) (o + 1)) run′ other′
     unfolding sifted
-    sifts-deleted h = rw (eq-eqb (key slot mask (current (underway t b run other))) value (key-here ∙ (sym ek ∙ h)))
-
-    sifts-kept : (k ≡ value → ⊥) → kept (underway t b run other) ≡ sifted slot mask value (underway t b run other)
-    unfolding sifted
-    sifts-kept h = rw (ne-eqb (key slot mask (current (underway t b run other))) value (λ q. h (ek ∙ (sym key-here ∙ q))))
-
-    pub one-deleted : {r : Buffer} {run′ other′ : List ℕ} → k ≡ value → (Acts (λ a. deleted a) b run other r run′ other′) × (r ≡ atPlaces (b .idx .0 + 1) (b .len .0) (b .«out_len» .0) (withLimitsOf (r .limits) b)) × (b .«have_separate_output» ≡ false → other′ ≡ other)
-        → length run′ ≡ length run → length other′ ≡ length other → (Sifts (sifted slot mask value) t b run other r run′ other′) × (r .idx .0 ≡ b .idx .0 + 1)
-    one-deleted h u lr lo = (sifts-as (delete-sifts t v (u .0) (u .1) (u .2) lr lo) (sifts-deleted h), idx-is b (b .idx .0 + 1) (b .len .0) (b .«out_len» .0) (u .1))
-
-    pub one-kept : {r : Buffer} {run′ other′ : List ℕ} → (k ≡ value → ⊥) → (Sifts (λ a. kept a) t b run other r run′ other′) × (r .idx .0 ≡ b .idx .0 + 1) → (Sifts (sifted slot mask value) t b run other r run′ other′) × (r .idx .0 ≡ b .idx .0 + 1)
-    one-kept h u = (sifts-as (u .0) (sifts-kept h), u .1)
+    one-kept h u lr lo = onward-as (keep-onward t v u lr lo) (rw (ne-eqb (key slot mask (current (underway t (amid level n b l i o) run other))) value (λ q. h (ek ∙ (sym key-here ∙ q)))))

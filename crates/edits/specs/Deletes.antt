@@ -1,11 +1,12 @@
 -- What the functions below the exported deletion ask for and do, by places.
-use mathlib.Core.{Path._≡_, Bool.Bool, Bool.true, Bool.false, Bool._&&_, List.List}
+use mathlib.Core.{Path._≡_, Bool.Bool, Bool.true, Bool.false, Bool.cond, Bool._&&_, List.List}
 use Prim.Native.Nat.{ℕ, _+_, _≤_, _<_}
-use lib.{Dec.ltb, ListN.length, ListN.getD}
-use Rattle.records.specs.{Ranges.clusters, Ranges.is, Ranges.first, Ranges.last, View.glyphs}
+use lib.{Dec.ltb, ListN.length, ListN.getD, ListN.set}
+use Rattle.records.specs.{Limits, Glyphs.zeroPosition, Ranges.clusters, Ranges.is, Ranges.first, Ranges.last, View.glyphs, View.placements, View.zeroGlyph}
 use Rattle.lists.specs.declared.{Buffer.Buffer, Verdict.Verdict}
-use Rattle.lists.specs.{Account.Account, Account.outputPhase, State.accountOf, State.Held, States.atPlaces, States.withLimitsOf}
-use Rattle.edits.specs.{Acts.Acts, Charges.leftWith, Deleting.current, Deleting.survives, Deleting.inherited, Deleting.deleted, MergeActs.mergeLimits}
+use Rattle.lists.specs.{Account.Account, Account.outputPhase, Account.positionsPhase, State.accountOf, State.Held, States.atPlaces, States.withLimitsOf}
+use Rattle.edits.specs.declared.{Kept.Kept}
+use Rattle.edits.specs.{Acts.Acts, Charges.leftWith, Charges.running, Deleting.current, Deleting.survives, Deleting.inherited, Deleting.deleted, Deleting.deletedEach, Deleting.keptRun, MergeActs.mergeLimits, Wholes.WholeInput}
 
 -- a buffer with output and a glyph at the cursor
 pub record Deletable (b : Buffer) (run other : List ℕ) : Type 0 where
@@ -57,3 +58,23 @@ pub record Deletes (separate : Bool) (level idx len outLen : ℕ) (merged : Bool
 -- the verdict on the call, once it is known whether two glyphs were merged
 abbrev pub mergedWith : Bool → Verdict → Verdict
 mergedWith merged v = leftWith (mergeLimits merged 2 (v .limits)) v
+
+-- ---- 21
+-- a glyph goes from place i to place k, with its position where there are positions
+pub record MoveRoom (i k : ℕ) (run other : List ℕ) : Type 0 where
+  pub from : i < length (glyphs run)
+  pub to : k < length (glyphs run)
+  pub from-place : i < length (placements other)
+  pub to-place : k < length (placements other)
+
+pub record MovesGlyph (positions : Bool) (i k : ℕ) (run other run′ other′ : List ℕ) : Type 0 where
+  pub run-is : glyphs run′ ≡ set (glyphs run) k (getD (glyphs run) i zeroGlyph)
+  pub other-is : placements other′ ≡ cond positions (set (placements other) k (getD (placements other) i zeroPosition)) (placements other)
+
+-- the glyphs with the key are deleted, on every whole run that lies here, in a phase that has positions where `positions` says so
+pub record Sifts (slot mask value : ℕ) (positions : Bool) (level n : ℕ) (l : Limits) (k : Kept) (run other run′ other′ : List ℕ) : Type 0 where
+  pub acts : (b : Buffer) → WholeInput (running level n l b) run other → positions ≡ positionsPhase (b .phase) → Acts (λ a. keptRun (deletedEach slot mask value (length (a .rest)) a)) (running level n l b) run other (running level (k .len) (k .limits) b) run′ other′
+
+-- the verdict on it, once it is known what is left
+abbrev pub keptWith : Kept → Verdict → Verdict
+keptWith k v = record { idx = v .idx; len = k .len; «out_len» = v .«out_len»; limits = k .limits; apart = v .apart; acts = v .acts; answer = v .answer }

@@ -21,4 +21,3 @@ pub mod Relabels
 pub mod Propagating
 pub mod Reversals
 pub mod Sorts
-pub mod Underway

@@ -1,17 +1,13 @@
 // Deletion: call 0F.
-ghost use mathlib.Core.Path.{_≡_};
-ghost use mathlib.Core.Bool.{Bool, false};
-ghost use Prim.Native.Nat.{_+_, _≤_, _<_};
+ghost use mathlib.Core.Bool.{Bool};
+ghost use Prim.Native.Nat.{_≤_, _<_};
 ghost use lib.ListN.{length};
 ghost use Rattle.records.specs.View.{glyphs};
-ghost use Rattle.lists.specs.States.{atPlaces, withLimitsOf};
 ghost use Rattle.lists.specs.Contract.{Meets};
 ghost use Rattle.lists.specs.Verdicts.{Sided};
-ghost use Rattle.edits.specs.Deleting.{deleted, deleteGlyph};
-ghost use Rattle.edits.specs.Acts.{Acts};
+ghost use Rattle.edits.specs.Deleting.{deleteGlyph};
 ghost use Rattle.edits.specs.Charges.{DecidedBy};
-ghost use Rattle.edits.specs.Deletes.{Deletable, DeleteRoom, NextFound, LastFound, Surviving, Inherits, Deletes, mergedWith};
-ghost use Rattle.edits.specs.MergeActs.{mergeLimits};
+ghost use Rattle.edits.specs.Deletes.{DeleteRoom, NextFound, LastFound, Surviving, Inherits, Deletes, mergedWith};
 use super::merge_acts;
 use super::merges;
 use super::writing;
@@ -141,32 +137,6 @@ fn keep_cluster_by(
         return keep_cluster(second, first, separate, level, idx, len, out_len);
     }
     keep_cluster(first, second, separate, level, idx, len, out_len)
-}
-
-fn drop_one(b: Buffer, merged: bool) -> Buffer
-    requires { ⌜ b .idx .0 < b .len .0 ⌝ }
-    ensures { λ r. ⌜ r ≡ atPlaces (b .idx .0 + 1) (b .len .0) (b .«out_len» .0) (withLimitsOf (mergeLimits merged 2 (b .limits)) b) ⌝ }
-{
-    let idx = b.idx.0 + 1;
-    let paid = state::with_limits(b, merge_acts::merge_limits(b.limits, merged, 2));
-    state::at_places(paid, idx, b.len.0, b.out_len.0)
-}
-
-// The glyph at the cursor goes, for another call.
-pub(crate) fn delete_one(b: Buffer, run: &mut [u32], other: &mut [u32]) -> Buffer
-    requires { ⌜ Deletable b (now run) (now other) ⌝ }
-    ensures { λ r. ⌜ (Acts (λ a. deleted a) b (now (run .entry)) (now (other .entry)) r (now (run .exit)) (now (other .exit))) × (r ≡ atPlaces (b .idx .0 + 1) (b .len .0) (b .«out_len» .0) (withLimitsOf (r .limits) b)) × (b .«have_separate_output» ≡ false → now (other .exit) ≡ now (other .entry)) ⌝ }
-{
-    let merged = keep_cluster(
-        run,
-        other,
-        b.have_separate_output,
-        b.level,
-        b.idx.0,
-        b.len.0,
-        b.out_len.0,
-    );
-    drop_one(b, merged)
 }
 
 // 0F. What is due where it merges is not in it.

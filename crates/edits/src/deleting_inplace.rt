@@ -2,22 +2,24 @@
 // in the other slice, in the same places.
 ghost use mathlib.Core.Path.{_≡_};
 ghost use mathlib.Core.Bool.{cond};
-ghost use Prim.Native.Nat.{_+_, _-_, _<_};
+ghost use Prim.Native.Nat.{_<_};
 ghost use lib.ListN.{length, getD, set};
 ghost use Rattle.records.specs.Glyphs.{zeroPosition};
-ghost use Rattle.records.specs.View.{glyphs, placements, zeroGlyph};
-ghost use Rattle.lists.specs.State.{Held};
-ghost use Rattle.lists.specs.Contract.{Meets, MeetsIn};
-ghost use Rattle.edits.specs.Deleting.{kept, deletedEach, keptRun, deleteGlyphsInplace};
-ghost use Rattle.edits.specs.Acts.{Acts};
-ghost use Rattle.edits.specs.Wholes.{WholeInput};
-ghost use Rattle.edits.specs.Underway.{sifted, Siftable, Sifts};
+ghost use Rattle.records.specs.View.{placements};
+ghost use Rattle.lists.specs.Contract.{Meets};
+ghost use Rattle.lists.specs.Verdicts.{Sided};
+ghost use Rattle.edits.specs.Deleting.{deleteGlyphsInplace};
+ghost use Rattle.edits.specs.Deletes.{MoveRoom, MovesGlyph, Sifts};
+ghost use Rattle.edits.specs.Wholes.{RunRoom};
+use super::Kept;
 use super::deleting;
+use super::merge_acts;
 use super::whole;
 use lists::Buffer;
 use lists::Reply;
 use lists::state;
-use records::Refusal;
+use lists::verdicts;
+use records::Limits;
 
 // A position goes to another place, where there are positions.
 fn move_position(ws: &mut [u32], positions: bool, from: usize, to: usize)
@@ -32,8 +34,8 @@ fn move_position(ws: &mut [u32], positions: bool, from: usize, to: usize)
 
 // A glyph goes to another place, with its position. Where it lies there already, nothing is written.
 fn move_glyph(run: &mut [u32], other: &mut [u32], positions: bool, from: usize, to: usize)
-    requires { ⌜ (from < length (glyphs (now run))) × (to < length (glyphs (now run))) × (from < length (placements (now other))) × (to < length (placements (now other))) ⌝ }
-    ensures { λ r. ⌜ (glyphs (now (run .exit)) ≡ set (glyphs (now (run .entry))) to (getD (glyphs (now (run .entry))) from zeroGlyph)) × (placements (now (other .exit)) ≡ cond positions (set (placements (now (other .entry))) to (getD (placements (now (other .entry))) from zeroPosition)) (placements (now (other .entry)))) ⌝ }
+    requires { ⌜ MoveRoom from to (now run) (now other) ⌝ }
+    ensures { λ r. ⌜ MovesGlyph positions from to (now (run .entry)) (now (other .entry)) (now (run .exit)) (now (other .exit)) ⌝ }
 {
     if from == to {
         return;
@@ -43,92 +45,80 @@ fn move_glyph(run: &mut [u32], other: &mut [u32], positions: bool, from: usize, 
     move_position(other, positions, from, to);
 }
 
-// The glyph at the cursor is kept.
-fn keep_one(b: Buffer, run: &mut [u32], other: &mut [u32], positions: bool) -> Buffer
-    requires { ⌜ (Siftable b (now run) (now other)) × (b .idx .0 < b .len .0) ⌝ }
-    ensures { λ r. ⌜ (Sifts (λ a. kept a) positions b (now (run .entry)) (now (other .entry)) r (now (run .exit)) (now (other .exit))) × (r .idx .0 ≡ b .idx .0 + 1) ⌝ }
-{
-    let idx = b.idx.0;
-    let out_len = b.out_len.0;
-    move_glyph(run, other, positions, idx, out_len);
-    state::at_places(b, idx + 1, b.len.0, out_len + 1)
-}
-
-// The glyph at the cursor is deleted if it has the key, else kept.
-fn sift_one(
-    b: Buffer,
-    run: &mut [u32],
-    other: &mut [u32],
-    positions: bool,
-    slot: u32,
-    mask: u32,
-    value: u32,
-) -> Buffer
-    requires { ⌜ (Siftable b (now run) (now other)) × (b .idx .0 < b .len .0) ⌝ }
-    ensures { λ r. ⌜ (Sifts (sifted slot mask value) positions b (now (run .entry)) (now (other .entry)) r (now (run .exit)) (now (other .exit))) × (r .idx .0 ≡ b .idx .0 + 1) ⌝ }
-{
-    if records::glyphs::key_at(run, b.idx.0, slot, mask) == value {
-        return deleting::delete_one(b, run, other);
-    }
-    keep_one(b, run, other, positions)
-}
-
-// From the cursor to the end.
+// Of a whole run of len glyphs, those with the key are deleted, from the left. What is left, at the front.
 fn sift(
-    b: Buffer,
     run: &mut [u32],
     other: &mut [u32],
     positions: bool,
+    level: u32,
+    limits: Limits,
+    len: usize,
     slot: u32,
     mask: u32,
     value: u32,
-) -> Buffer
-    requires { ⌜ Siftable b (now run) (now other) ⌝ }
-    ensures { λ r. ⌜ Sifts (deletedEach slot mask value (b .len .0 - b .idx .0)) positions b (now (run .entry)) (now (other .entry)) r (now (run .exit)) (now (other .exit)) ⌝ }
+) -> Kept
+    requires { ⌜ RunRoom len (now run) (now other) ⌝ }
+    ensures { λ r. ⌜ Sifts slot mask value positions level len limits r (now (run .entry)) (now (other .entry)) (now (run .exit)) (now (other .exit)) ⌝ }
 {
-    let mut s = b;
-    while s.idx.0 < s.len.0 {
-        s = sift_one(s, run, other, positions, slot, mask, value);
+    let mut left = limits;
+    let mut out_len = 0;
+    let mut idx = 0;
+    while idx < len {
+        if records::glyphs::key_at(run, idx, slot, mask) == value {
+            let merged = deleting::keep_cluster(run, other, false, level, idx, len, out_len);
+            left = merge_acts::merge_limits(left, merged, 2);
+        } else {
+            move_glyph(run, other, positions, idx, out_len);
+            out_len = out_len + 1;
+        }
+        idx = idx + 1;
     }
-    s
+    Kept {
+        len: out_len,
+        limits: left,
+    }
 }
 
-// The whole run, of which the glyphs kept become the run.
-fn delete_each(
-    b: Buffer,
-    run: &mut [u32],
-    other: &mut [u32],
+// The same, wherever the run lies.
+fn sift_by(
+    first: &mut [u32],
+    second: &mut [u32],
+    swapped: bool,
+    positions: bool,
+    level: u32,
+    limits: Limits,
+    len: usize,
     slot: u32,
     mask: u32,
     value: u32,
-) -> Buffer
-    requires { ⌜ WholeInput b (now run) (now other) ⌝ }
-    ensures { λ r. ⌜ Acts (λ a. keptRun (deletedEach slot mask value (length (a .rest)) a)) b (now (run .entry)) (now (other .entry)) r (now (run .exit)) (now (other .exit)) ⌝ }
+) -> Kept
+    requires { ⌜ RunRoom len (now first) (now second) ⌝ }
+    ensures { λ r. ⌜ Sided swapped (Sifts slot mask value positions level len limits r) (now (first .entry)) (now (second .entry)) (now (first .exit)) (now (second .exit)) ⌝ }
 {
-    let phase = b.phase;
-    let positions = state::have_positions(phase);
-    let done = sift(state::opened(b), run, other, positions, slot, mask, value);
-    state::at_places(state::with_limits(b, done.limits), 0, done.out_len.0, 0)
-}
-
-fn delete_inplace_in(
-    b: Buffer,
-    run: &mut [u32],
-    other: &mut [u32],
-    slot: u32,
-    mask: u32,
-    value: u32,
-) -> Reply
-    requires { ⌜ Held b (now run) (now other) ⌝ }
-    ensures { λ r. ⌜ MeetsIn (λ capacity a. deleteGlyphsInplace slot mask value a) b (now (run .entry)) (now (other .entry)) r (now (run .exit)) (now (other .exit)) ⌝ }
-{
-    if whole::not_whole(b) {
-        return state::refusal(b, Refusal::WrongPhase);
+    if swapped {
+        return sift(
+            second,
+            first,
+            positions,
+            level,
+            limits,
+            len,
+            slot,
+            mask,
+            value,
+        );
     }
-    if 1 < slot {
-        return state::refusal(b, Refusal::BadOperand);
-    }
-    state::accepted(delete_each(b, run, other, slot, mask, value))
+    sift(
+        first,
+        second,
+        positions,
+        level,
+        limits,
+        len,
+        slot,
+        mask,
+        value,
+    )
 }
 
 // 21
@@ -142,11 +132,25 @@ pub fn delete_glyphs_inplace(
 ) -> Reply
     ensures { λ r. ⌜ Meets (λ capacity a. deleteGlyphsInplace slot mask value a) b (now (first .entry)) (now (second .entry)) r (now (first .exit)) (now (second .exit)) ⌝ }
 {
-    if state::is_sound(b, first, second) {
-        if b.swapped {
-            return delete_inplace_in(b, second, first, slot, mask, value);
-        }
-        return delete_inplace_in(b, first, second, slot, mask, value);
+    let phase = b.phase;
+    let positions = state::have_positions(phase);
+    let mut v = whole::keyed_verdict(b, first, second, slot);
+    if v.acts {
+        let kept = sift_by(
+            first,
+            second,
+            b.swapped,
+            positions,
+            b.level,
+            b.limits,
+            b.len.0,
+            slot,
+            mask,
+            value,
+        );
+        let left = kept.limits;
+        v.len = kept.len;
+        v.limits = left;
     }
-    state::refusal(b, Refusal::Contradiction)
+    verdicts::settled(b, v)
 }

@@ -1,6 +1,7 @@
 // Edits of the shaping buffer. The account of writing, merging, deleting, flags and the whole run stands in specs/.
 use records::DonePlace;
 use records::InputPlace;
+use records::Limits;
 
 pub mod bounds;
 pub mod deleting;
@@ -45,6 +46,12 @@ pub struct OutMerge {
     pub from: usize,
     pub to: usize,
     pub head: bool,
+}
+
+// What a deletion in place leaves: how many glyphs, and what of the limits.
+pub struct Kept {
+    pub len: usize,
+    pub limits: Limits,
 }
 
 // A bound of a flag form in the input.

@@ -1,63 +1,22 @@
-use mathlib.Core.Path.{sym, _∙_}
-use Rattle.lists.proofs.Accounts.{sound-held, held-turned}
-use Rattle.lists.proofs.Calls.{shell-first, shell-second, shell-unsound}
+use mathlib.Core.Logic.{⊎-elim}
+use Rattle.lists.proofs.Decisions.{kept-length}
+use Rattle.edits.proofs.Charging.{by-acted, by-still, keyed-room, ending}
+use Rattle.edits.proofs.SiftedRuns.{inplace-decided}
 use borrow.Author.Needs.{needs}
 use Rattle.edits.proofs.deleting_inplace.delete_glyphs_inplace.Statement.{statement}
 use Rattle.edits.proofs.deleting_inplace.delete_glyphs_inplace.Tie as tie
 
-is-sound-requires : tie.Need-is-sound-requires
-is-sound-requires c κs = search needs
-
-delete-inplace-in-requires : tie.Need-delete-inplace-in-requires
-delete-inplace-in-requires c κs = held-turned _ _ _ (sound-held _ _ _ (sym (c .before .before .before .before .is-sound .ensures .is) ∙ c .before .before .before .if1 .taken))
+sift-by-requires : tie.Need-sift-by-requires
+sift-by-requires c κs = search keyed-room
 
 same-length : tie.Need-same-length
-same-length c = search needs
+same-length c = ⊎-elim (λ w. search (kept-length, needs)) (λ w. search (kept-length, needs)) (c .before .if1 .came)
 
 same-length-2 : tie.Need-same-length-2
-same-length-2 c = search needs
+same-length-2 c = ⊎-elim (λ w. search (kept-length, needs)) (λ w. search (kept-length, needs)) (c .before .if1 .came)
 
 returns : tie.Need-returns
-returns c = let call = c .before .before .before .before .delete-inplace-in in shell-second (sym (c .before .before .before .before .before .before .before .before .before .is-sound .ensures .is) ∙ c .before .before .before .before .before .before .before .before .if1 .taken) (call .kept .1 .1 .0) (call .kept .1 .0) (c .before .before .before .before .before .before .before .if2 .taken) (call .ensures)
-
-delete-inplace-in-requires-2 : tie.Need-delete-inplace-in-requires-2
-delete-inplace-in-requires-2 c κs = sound-held _ _ _ (sym (c .before .before .before .before .is-sound .ensures .is) ∙ c .before .before .before .if1 .taken)
-
-same-length-3 : tie.Need-same-length-3
-same-length-3 c = search needs
-
-same-length-4 : tie.Need-same-length-4
-same-length-4 c = search needs
-
-returns-2 : tie.Need-returns-2
-returns-2 c = let call = c .before .before .before .before .delete-inplace-in2 in shell-first (sym (c .before .before .before .before .before .before .before .before .before .is-sound .ensures .is) ∙ c .before .before .before .before .before .before .before .before .if1 .taken) (call .kept .1 .0) (call .kept .1 .1 .0) (c .before .before .before .before .before .before .before .if2 .left) (call .ensures)
-
-refusal-requires : tie.Need-refusal-requires
-refusal-requires c κs = search needs
-
-same-length-5 : tie.Need-same-length-5
-same-length-5 c = search needs
-
-same-length-6 : tie.Need-same-length-6
-same-length-6 c = search needs
-
-returns-3 : tie.Need-returns-3
-returns-3 c = shell-unsound (sym (c .before .before .is-sound .ensures .is) ∙ c .before .if1 .left) (c .refusal .ensures)
+returns c = let at : tie.After-keyed-verdict = search in let before : tie.After-have-positions = search in ending (inplace-decided _ _ (before .have-positions .ensures) (at .keyed-verdict .ensures)) (λ d. ⊎-elim (λ w. search by-acted) (λ w. search by-still) (c .before .if1 .came))
 
 pub delete-glyphs-inplace-spec : {M : Type 1} → statement M
-delete-glyphs-inplace-spec =
-    tie.close
-    (tie.spec
-    is-sound-requires
-    delete-inplace-in-requires
-    same-length
-    same-length-2
-    returns
-    delete-inplace-in-requires-2
-    same-length-3
-    same-length-4
-    returns-2
-    refusal-requires
-    same-length-5
-    same-length-6
-    returns-3)
+delete-glyphs-inplace-spec = tie.close (tie.spec (search needs) (search needs) sift-by-requires (search needs) same-length same-length-2 returns)

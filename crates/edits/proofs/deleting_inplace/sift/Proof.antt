@@ -1,46 +1,34 @@
--- What is left to do comes to what there was to do.
+-- What is left to do from the cursor on comes to what there was to do.
 use Prim.Native.Nat.{_-_}
-use Rattle.edits.proofs.SiftedRuns.{Sifting, sifting-none, sifting-siftable, sifting-more, sifting-less, sifting-done}
+use mathlib.Core.Logic.{⊎-elim}
+use Rattle.edits.proofs.SiftedRuns.{SiftingOf, sifting-none, sifting-key, sifting-delete, sifting-keep, sifting-deleted, sifting-kept, sifting-done}
+use borrow.Author.Needs.{needs}
 use Rattle.edits.proofs.deleting_inplace.sift.Statement.{statement}
 use Rattle.edits.proofs.deleting_inplace.sift.Tie as tie
 
 abbrev Inv-loop : tie.InvT-loop
-Inv-loop run₀ other₀ positions slot mask value s₀ run other s = Sifting slot mask value positions s₀ run₀ other₀ s run other
+Inv-loop run₀ other₀ positions level n slot mask value left₀ out₀ idx₀ run other left out idx = SiftingOf slot mask value positions level n left₀ run₀ other₀ left run other idx out
 
 abbrev μ-loop : tie.MeasureT-loop
-μ-loop run₀ other₀ positions slot mask value s₀ run other s = s .len .0 - s .idx .0
+μ-loop run₀ other₀ positions level n slot mask value left₀ out₀ idx₀ run other left out idx = n - idx
 
 loop-holds : tie.Need-loop-holds Inv-loop μ-loop
-loop-holds c = sifting-none (c .before .before .pre)
+loop-holds c = search sifting-none
 
-sift-one-requires : tie.Need-sift-one-requires Inv-loop μ-loop
-sift-one-requires c κs = (sifting-siftable (c .before .before .before .before .loop .inv), c .before .before .if1 .taken)
+key-at-requires : tie.Need-key-at-requires Inv-loop μ-loop
+key-at-requires c κs = search sifting-key
 
-loop-less : tie.Need-loop-less Inv-loop μ-loop
-loop-less c = let call = c .before .before .before .before .sift-one in sifting-less (c .before .before .before .before .before .before .before .before .before .loop .inv) (c .before .before .before .before .before .before .before .if1 .taken) (call .ensures) (call .kept .1 .0) (call .kept .1 .1 .0)
+keep-cluster-requires : tie.Need-keep-cluster-requires Inv-loop μ-loop
+keep-cluster-requires c κs = search sifting-delete
+
+move-glyph-requires : tie.Need-move-glyph-requires Inv-loop μ-loop
+move-glyph-requires c κs = search sifting-keep
 
 loop-again : tie.Need-loop-again Inv-loop μ-loop
-loop-again c = let call = c .before .before .before .before .sift-one in sifting-more (c .before .before .before .before .before .before .before .before .before .loop .inv) (c .before .before .before .before .before .before .before .if1 .taken) (call .ensures) (call .kept .1 .0) (call .kept .1 .1 .0)
-
-same-length : tie.Need-same-length Inv-loop μ-loop
-same-length c = c .before .before .loop .inv .run-length
-
-same-length-2 : tie.Need-same-length-2 Inv-loop μ-loop
-same-length-2 c = c .before .before .loop .inv .other-length
+loop-again c = ⊎-elim (λ w. search sifting-deleted) (λ w. search sifting-kept) (c .if1 .came)
 
 returns : tie.Need-returns Inv-loop μ-loop
-returns c = sifting-done (c .before .before .loop .inv) (c .if1 .left)
+returns c = search sifting-done
 
 pub sift-spec : {M : Type 1} → statement M
-sift-spec =
-    tie.close
-    (tie.spec
-    Inv-loop
-    μ-loop
-    loop-holds
-    sift-one-requires
-    loop-less
-    loop-again
-    same-length
-    same-length-2
-    returns)
+sift-spec = tie.close (tie.spec Inv-loop μ-loop loop-holds key-at-requires keep-cluster-requires (search needs) move-glyph-requires (search needs) (search needs) (search needs) loop-again (search needs) (search needs) returns)
