@@ -11,7 +11,7 @@ use Rattle.lists.specs.{Account.Account, Account.readLevel, Account.outputPhase
 use Rattle.lists.proofs.{Accounts.output-of, Accounts.sound-held}
 use Rattle.lists.proofs.Decisions.{acts-is, settles-refused, meets-sided}
 use Rattle.edits.specs.{Acts.Acts, Charges.leftWith, Charges.DecidedBy, Deleting.deleted, Deleting.deleteGlyph, Merging.merge, Merging.clustersMerge, MergeActs.mergeLimits, MergeActs.Merges}
-use Rattle.edits.specs.Deletes.{Deletable, laid, DeleteRoom, NextFound, LastFound, Surviving, Inherits, Deletes, mergedWith}
+use Rattle.edits.specs.Deletes.{Deletable, laid, DeleteRoom, NextFound, LastFound, Surviving, SurvivingBy, Inherits, Deletes, mergedWith}
 use Rattle.edits.proofs.Writings.{rest-short, rest-long}
 use Rattle.edits.proofs.{Charging.by-none, Charging.by-unsound, MergeCalls.in-acts}
 use Rattle.edits.proofs.Deletions.{next-is, next-none, last-is, last-none, survives-next, survives-last, deletes-survived, deletes-inherited, deletes-alone, deletes, stays, next-mergeful, merge-deletes, inherit-none, inherit-apart, inherit-within}
@@ -58,26 +58,48 @@ module _ {separate t : Bool} {level idx len outLen : ℕ} {run other : List ℕ}
   unfolding mergeLimits withLimitsOf
   free b v u lr lo e = deletes v (b .limits) u lr lo e
 
-  pub deletes-kept : t ≡ true → Deletes separate level idx len outLen false run other run other
+  deletes-kept : t ≡ true → Deletes separate level idx len outLen false run other run other
   deletes-kept h = record { acts = λ b v. free b v (stays v) refl refl (deletes-survived v (sym (w .is (laid separate level idx len outLen b) v) ∙ h)); own = λ z. refl }
 
   module _ (h : t ≡ false) where
-    pub deletes-inherits : {run′ other′ : List ℕ} → 0 < outLen → Inherits separate idx outLen run other run′ other′ → length run′ ≡ length run → length other′ ≡ length other → Deletes separate level idx len outLen false run other run′ other′
+    deletes-inherits : {run′ other′ : List ℕ} → 0 < outLen → Inherits separate idx outLen run other run′ other′ → length run′ ≡ length run → length other′ ≡ length other → Deletes separate level idx len outLen false run other run′ other′
     deletes-inherits k u lr lo = record { acts = λ b v. free b v (u .acts (laid separate level idx len outLen b) v) lr lo (deletes-inherited v (sym (w .is (laid separate level idx len outLen b) v) ∙ h) k); own = u .own }
 
-    pub deletes-single : outLen ≤ 0 → len - idx < 2 → Deletes separate level idx len outLen false run other run other
+    deletes-single : outLen ≤ 0 → len - idx < 2 → Deletes separate level idx len outLen false run other run other
     deletes-single k l = record { acts = λ b v. free b v (stays v) refl refl (deletes-alone v (sym (w .is (laid separate level idx len outLen b) v) ∙ h) k (omega arith)); own = λ z. refl }
 
-    pub deletes-merges : {merges : Bool} {run′ other′ : List ℕ} → outLen ≤ 0 → 2 ≤ len - idx → merges ≡ clustersMerge (readLevel level) → Sided false (Merges separate merges level idx len outLen idx (idx + 2)) run other run′ other′ → length run′ ≡ length run → length other′ ≡ length other
+    deletes-merges : {merges : Bool} {run′ other′ : List ℕ} → outLen ≤ 0 → 2 ≤ len - idx → merges ≡ clustersMerge (readLevel level) → Merges separate merges level idx len outLen idx (idx + 2) run other run′ other′ → length run′ ≡ length run → length other′ ≡ length other
         → Deletes separate level idx len outLen merges run other run′ other′
     deletes-merges {merges} {run′} {other′} k l em m lr lo = record {
       acts = λ b v.
           let y = laid separate level idx len outLen b in
           let two : idx + 2 - idx ≡ 2 = omega arith in
-          deletes v (mergeLimits merges 2 (b .limits)) (rw two at (m .first refl .acts y (rw (v .output)) (next-mergeful v (omega arith)))) lr lo
+          deletes v (mergeLimits merges 2 (b .limits)) (rw two at (m .acts y (rw (v .output)) (next-mergeful v (omega arith)))) lr lo
           (merge-deletes v (sym (w .is y v) ∙ h) k (omega arith) ∙ ap (λ (z : Bool). dropping 1 (merge z (idx - goneOf y) (idx + 2 - goneOf y) (accountOf y run other))) (sym em));
-      own = m .first refl .apart-only;
+      own = m .apart-only;
     }
+
+-- wherever the run lies
+module _ {swapped separate t : Bool} {level idx len outLen : ℕ} {f s : List ℕ} (w : SurvivingBy swapped separate idx len outLen f s t) where
+  pub keeps-survived : t ≡ true → Sided swapped (Deletes separate level idx len outLen false) f s f s
+  keeps-survived h = record { first = λ x. deletes-kept (w .first x) h; second = λ x. deletes-kept (w .second x) h }
+
+  module _ (h : t ≡ false) where
+    pub keeps-single : outLen ≤ 0 → len - idx < 2 → Sided swapped (Deletes separate level idx len outLen false) f s f s
+    keeps-single k l = record { first = λ x. deletes-single (w .first x) h k l; second = λ x. deletes-single (w .second x) h k l }
+
+    module _ {f′ s′ : List ℕ} (lf : length f′ ≡ length f) (ls : length s′ ≡ length s) where
+      pub keeps-inherited : 0 < outLen → Sided swapped (Inherits separate idx outLen) f s f′ s′ → Sided swapped (Deletes separate level idx len outLen false) f s f′ s′
+      keeps-inherited k u = record { first = λ x. deletes-inherits (w .first x) h k (u .first x) lf ls; second = λ x. deletes-inherits (w .second x) h k (u .second x) ls lf }
+
+      pub keeps-merged : {merges : Bool} → outLen ≤ 0 → 2 ≤ len - idx → merges ≡ clustersMerge (readLevel level) → Sided swapped (Merges separate merges level idx len outLen idx (idx + 2)) f s f′ s′ → Sided swapped (Deletes separate level idx len outLen merges) f s f′ s′
+      keeps-merged k l em m = record { first = λ x. deletes-merges (w .first x) h k l em (m .first x) lf ls; second = λ x. deletes-merges (w .second x) h k l em (m .second x) ls lf }
+
+pub survives-first : {swapped separate t : Bool} {idx len outLen : ℕ} {f s : List ℕ} → swapped ≡ false → Surviving separate idx len outLen f s t → SurvivingBy swapped separate idx len outLen f s t
+survives-first h w = record { first = λ x. w; second = λ x. absurd (false≢true (sym h ∙ x)) }
+
+pub survives-second : {swapped separate t : Bool} {idx len outLen : ℕ} {f s : List ℕ} → swapped ≡ true → Surviving separate idx len outLen s f t → SurvivingBy swapped separate idx len outLen f s t
+survives-second h w = record { first = λ x. absurd (false≢true (sym x ∙ h)); second = λ x. w }
 
 -- at the places of a buffer
 pub delete-room : {b : Buffer} {run other : List ℕ} → Deletable b run other → DeleteRoom (b .idx .0) (b .len .0) (b .«out_len» .0) run other

@@ -7,6 +7,7 @@ use lib.{Dec.ltb, ListN.length, ListN.take, ListN.getD, ListN.set}
 use Rattle.records.specs.{Phase, Plain, Output, Positions, Spoiled, WrongPhase, BadOperand, Done, Limits, Glyphs.key, Glyphs.zeroPosition, View.glyphs, View.placements, View.wordsFrom, View.zeroGlyph}
 use Rattle.records.proofs.View.{glyphs-same}
 use Rattle.lists.specs.declared.{Buffer.Buffer, Verdict.Verdict}
+use Rattle.lists.specs.Verdicts.{Sided}
 use Rattle.lists.specs.{Account.readLevel, Account.Account, Account.outputPhase, Account.positionsPhase, Account.spoiledPhase, Account.withGone, Results.refused, Results.accepted, Results.refuse_when_else_, State.shown, State.stateOf, State.accountOf, State.Held, States.reply, States.atPlaces, States.withLimitsOf, Verdicts.leaving, Verdicts.settledBuffer, Verdicts.settled}
 use Rattle.lists.proofs.{Accounts.held-lengths}
 use Rattle.edits.specs.declared.{Kept.Kept}
@@ -101,9 +102,9 @@ module _ {slot mask value : ℕ} {t : Bool} {level n : ℕ} {l₀ : Limits} {run
       }
 
       module _ {k : ℕ} (ek : k ≡ key slot mask (getD (glyphs run) i zeroGlyph .info)) {run₁ other₁ run′ other′ : List ℕ} {l′ : Limits} {o′ : ℕ} where
-        pub sifting-deleted : {l₁ : Limits} {merged : Bool} → Deletes false level i n o merged run other run₁ other₁ → k ≡ value → l₁ ≡ mergeLimits merged 2 l → length run₁ ≡ length run → length other₁ ≡ length other
+        pub sifting-deleted : {l₁ : Limits} {merged : Bool} → Sided false (Deletes false level i n o merged) run other run₁ other₁ → k ≡ value → l₁ ≡ mergeLimits merged 2 l → length run₁ ≡ length run → length other₁ ≡ length other
             → run′ ≡ run₁ → other′ ≡ other₁ → l′ ≡ l₁ → o′ ≡ o → SiftingOf slot mask value t level n l₀ run₀ other₀ l′ run′ other′ (i + 1) o′
-        sifting-deleted d h el lr lo er eo e eq = rw (er, eo, e ∙ el, eq) (further lr lo (omega (arith, v .low)) (λ b w. one-deleted t slot mask value (next b w) ek h d))
+        sifting-deleted d h el lr lo er eo e eq = rw (er, eo, e ∙ el, eq) (further lr lo (omega (arith, v .low)) (λ b w. one-deleted t slot mask value (next b w) ek h (d .first refl)))
 
         pub sifting-kept : MovesGlyph t i o run other run₁ other₁ → (k ≡ value → ⊥) → length run₁ ≡ length run → length other₁ ≡ length other
             → run′ ≡ run₁ → other′ ≡ other₁ → l′ ≡ l → o′ ≡ o + 1 → SiftingOf slot mask value t level n l₀ run₀ other₀ l′ run′ other′ (i + 1) o′

@@ -45,6 +45,11 @@ pub record LastFound (separate : Bool) (idx outLen : ℕ) (run other : List ℕ)
 pub record Surviving (separate : Bool) (idx len outLen : ℕ) (run other : List ℕ) (t : Bool) : Type 0 where
   pub is : (b : Buffer) → let x = laid separate (b .level) idx len outLen b in Deletable x run other → t ≡ survives (clusters ((accountOf x run other) .rest)) (clusters ((accountOf x run other) .done))
 
+-- the same, wherever the run lies
+pub record SurvivingBy (swapped separate : Bool) (idx len outLen : ℕ) (f s : List ℕ) (t : Bool) : Type 0 where
+  pub first : swapped ≡ false → Surviving separate idx len outLen f s t
+  pub second : swapped ≡ true → Surviving separate idx len outLen s f t
+
 -- and what was done
 pub record Inherits (separate : Bool) (idx outLen : ℕ) (run other run′ other′ : List ℕ) : Type 0 where
   pub acts : (b : Buffer) → let x = laid separate (b .level) idx (b .len .0) outLen b in Deletable x run other → Acts inheriting x run other x run′ other′

@@ -1,4 +1,5 @@
 // Deletion: call 0F.
+ghost use mathlib.Core.Path.{_≡_};
 ghost use mathlib.Core.Bool.{Bool};
 ghost use Prim.Native.Nat.{_≤_, _<_};
 ghost use lib.ListN.{length};
@@ -7,7 +8,7 @@ ghost use Rattle.lists.specs.Contract.{Meets};
 ghost use Rattle.lists.specs.Verdicts.{Sided};
 ghost use Rattle.edits.specs.Deleting.{deleteGlyph};
 ghost use Rattle.edits.specs.Charges.{DecidedBy};
-ghost use Rattle.edits.specs.Deletes.{DeleteRoom, NextFound, LastFound, Surviving, Inherits, Deletes, mergedWith};
+ghost use Rattle.edits.specs.Deletes.{DeleteRoom, NextFound, LastFound, Surviving, SurvivingBy, Inherits, Deletes, mergedWith};
 use super::merge_acts;
 use super::merges;
 use super::writing;
@@ -60,6 +61,25 @@ fn cluster_survives(
     last_has(run, other, separate, idx, out_len)
 }
 
+// The same, wherever the run lies.
+fn survives_by(
+    first: &[u32],
+    second: &[u32],
+    swapped: bool,
+    separate: bool,
+    idx: usize,
+    len: usize,
+    out_len: usize,
+) -> bool
+    requires { ⌜ DeleteRoom idx len «out_len» (now first) (now second) ⌝ }
+    ensures { λ r. ⌜ SurvivingBy swapped separate idx len «out_len» (now (first .entry)) (now (second .entry)) r ⌝ }
+{
+    if swapped {
+        return cluster_survives(second, first, separate, idx, len, out_len);
+    }
+    cluster_survives(first, second, separate, idx, len, out_len)
+}
+
 // The equal tail of the output takes the cluster of the glyph at the cursor, where that is lower.
 fn inherit(run: &mut [u32], other: &mut [u32], separate: bool, idx: usize, out_len: usize)
     requires { ⌜ (idx < length (glyphs (now run))) × («out_len» ≤ length (glyphs (now run))) × («out_len» ≤ length (glyphs (now other))) × (0 < «out_len») ⌝ }
@@ -79,48 +99,27 @@ fn inherit(run: &mut [u32], other: &mut [u32], separate: bool, idx: usize, out_l
     lists::ranges::set_clusters(run, at, out_len, g.cluster, g.mask);
 }
 
-// The cluster of the glyph at the cursor goes to a neighbour. Whether the two were merged, which costs 2.
-pub(crate) fn keep_cluster(
-    run: &mut [u32],
-    other: &mut [u32],
+// The same, wherever the run lies.
+fn inherit_by(
+    first: &mut [u32],
+    second: &mut [u32],
+    swapped: bool,
     separate: bool,
-    level: u32,
     idx: usize,
-    len: usize,
     out_len: usize,
-) -> bool
-    requires { ⌜ DeleteRoom idx len «out_len» (now run) (now other) ⌝ }
-    ensures { λ r. ⌜ Deletes separate level idx len «out_len» r (now (run .entry)) (now (other .entry)) (now (run .exit)) (now (other .exit)) ⌝ }
+)
+    requires { ⌜ (idx < length (glyphs (now first))) × («out_len» ≤ length (glyphs (now first))) × (length (glyphs (now first)) ≡ length (glyphs (now second))) × (0 < «out_len») ⌝ }
+    ensures { λ r. ⌜ Sided swapped (Inherits separate idx «out_len») (now (first .entry)) (now (second .entry)) (now (first .exit)) (now (second .exit)) ⌝ }
 {
-    if cluster_survives(run, other, separate, idx, len, out_len) {
-        return false;
+    if swapped {
+        inherit(second, first, separate, idx, out_len);
+    } else {
+        inherit(first, second, separate, idx, out_len);
     }
-    if 0 < out_len {
-        inherit(run, other, separate, idx, out_len);
-        return false;
-    }
-    if len - idx < 2 {
-        return false;
-    }
-    let merges = merges::clusters_merge(level);
-    merge_acts::merge_by(
-        run,
-        other,
-        false,
-        separate,
-        merges,
-        level,
-        idx,
-        len,
-        out_len,
-        idx,
-        idx + 2,
-    );
-    merges
 }
 
-// The same, wherever the run lies.
-fn keep_cluster_by(
+// The cluster of the glyph at the cursor goes to a neighbour, wherever the run lies. Whether the two were merged, which costs 2.
+pub(crate) fn keep_cluster(
     first: &mut [u32],
     second: &mut [u32],
     swapped: bool,
@@ -133,10 +132,31 @@ fn keep_cluster_by(
     requires { ⌜ DeleteRoom idx len «out_len» (now first) (now second) ⌝ }
     ensures { λ r. ⌜ Sided swapped (Deletes separate level idx len «out_len» r) (now (first .entry)) (now (second .entry)) (now (first .exit)) (now (second .exit)) ⌝ }
 {
-    if swapped {
-        return keep_cluster(second, first, separate, level, idx, len, out_len);
+    if survives_by(first, second, swapped, separate, idx, len, out_len) {
+        return false;
     }
-    keep_cluster(first, second, separate, level, idx, len, out_len)
+    if 0 < out_len {
+        inherit_by(first, second, swapped, separate, idx, out_len);
+        return false;
+    }
+    if len - idx < 2 {
+        return false;
+    }
+    let merges = merges::clusters_merge(level);
+    merge_acts::merge_by(
+        first,
+        second,
+        swapped,
+        separate,
+        merges,
+        level,
+        idx,
+        len,
+        out_len,
+        idx,
+        idx + 2,
+    );
+    merges
 }
 
 // 0F. What is due where it merges is not in it.
@@ -163,7 +183,7 @@ pub fn delete_glyph(b: Buffer, first: &mut [u32], second: &mut [u32]) -> Reply
 {
     let mut v = delete_verdict(b, first, second);
     if v.acts {
-        let merged = keep_cluster_by(
+        let merged = keep_cluster(
             first,
             second,
             b.swapped,

@@ -65,7 +65,7 @@ fn sift(
     let mut idx = 0;
     while idx < len {
         if records::glyphs::key_at(run, idx, slot, mask) == value {
-            let merged = deleting::keep_cluster(run, other, false, level, idx, len, out_len);
+            let merged = deleting::keep_cluster(run, other, false, false, level, idx, len, out_len);
             left = merge_acts::merge_limits(left, merged, 2);
         } else {
             move_glyph(run, other, positions, idx, out_len);

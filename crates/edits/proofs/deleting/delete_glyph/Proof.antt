@@ -6,8 +6,8 @@ use borrow.Author.Needs.{needs}
 use Rattle.edits.proofs.deleting.delete_glyph.Statement.{statement}
 use Rattle.edits.proofs.deleting.delete_glyph.Tie as tie
 
-keep-cluster-by-requires : tie.Need-keep-cluster-by-requires
-keep-cluster-by-requires c κs = c .before .before .before .delete-verdict .ensures .asked (c .before .before .if1 .taken)
+keep-cluster-requires : tie.Need-keep-cluster-requires
+keep-cluster-requires c κs = c .before .before .before .delete-verdict .ensures .asked (c .before .before .if1 .taken)
 
 same-length : tie.Need-same-length
 same-length c = ⊎-elim (λ w. search (kept-length, needs)) (λ w. search (kept-length, needs)) (c .before .if1 .came)
@@ -19,4 +19,4 @@ returns : tie.Need-returns
 returns c = ⊎-elim (λ w. search (by-acted, due)) (λ w. search by-still) (c .before .if1 .came)
 
 pub delete-glyph-spec : {M : Type 1} → statement M
-delete-glyph-spec = tie.close (tie.spec (search needs) keep-cluster-by-requires (search needs) (search needs) same-length same-length-2 returns)
+delete-glyph-spec = tie.close (tie.spec (search needs) keep-cluster-requires (search needs) (search needs) same-length same-length-2 returns)
