@@ -1,10 +1,10 @@
 -- Call 21: the loop over the glyphs, the run that it leaves, and the call.
-use mathlib.Core.{Path._≡_, Path.refl, Path.sym, Path.ap, Path._∙_, Path.subst, Bool.Bool, Bool.true, Bool.false, Bool.cond, Bool.false≢true, List.List}
+use mathlib.Core.{Path._≡_, Path.refl, Path.sym, Path.ap, Path._∙_, Path.subst, Bool.Bool, Bool.true, Bool.false, Bool.false≢true, List.List}
 use Prim.Native.Nat.{ℕ, suc, _+_, _-_, _≤_, _<_}
 use native.Mathlib.Nat.{sub-zero}
 use native.Mathlib.Omega.{arith}
-use lib.{Dec.ltb, ListN.length, ListN.take, ListN.getD, ListN.set}
-use Rattle.records.specs.{Phase, Plain, Output, Positions, Spoiled, WrongPhase, BadOperand, Done, Limits, Glyphs.key, Glyphs.zeroPosition, View.glyphs, View.placements, View.wordsFrom, View.zeroGlyph}
+use lib.{Dec.ltb, ListN.length, ListN.take, ListN.getD}
+use Rattle.records.specs.{Phase, Plain, Output, Positions, Spoiled, WrongPhase, BadOperand, Done, Limits, Glyphs.key, View.glyphs, View.placements, View.wordsFrom, View.zeroGlyph}
 use Rattle.records.proofs.View.{glyphs-same}
 use Rattle.lists.specs.declared.{Buffer.Buffer, Verdict.Verdict}
 use Rattle.lists.specs.Verdicts.{Sided}
