@@ -185,9 +185,9 @@ module _ (b : Buffer) (capacity : ℕ) where
       order-all h = rw (le-leb _ _ i, le-leb _ _ l, lt-leb _ _ h) (sym (and-none (leb (b .«out_len» .0) (b .limits .allocated))))
 
       -- how much output there can be
-      pub order-most : b .limits .allocated ≤ capacity → leb (b .«out_len» .0) (mostOutput b) ≡ inOrder b capacity
+      pub order-most : {most : ℕ} → most ≡ mostOutput b → b .limits .allocated ≤ capacity → leb (b .«out_len» .0) most ≡ inOrder b capacity
       unfolding inOrder mostOutput
-      order-most a = rw (le-leb _ _ i, le-leb _ _ l, le-leb _ _ a) (by-phase (outputPhase (b .phase)) (b .«have_separate_output»))
+      order-most e a = rw (e, le-leb _ _ i, le-leb _ _ l, le-leb _ _ a) (by-phase (outputPhase (b .phase)) (b .«have_separate_output»))
         where
           by-phase : (p k : Bool) → leb (b .«out_len» .0) (cond p (cond k (b .limits .allocated) (b .idx .0)) 0) ≡ leb (b .«out_len» .0) (b .limits .allocated) && cond p (k || leb (b .«out_len» .0) (b .idx .0)) (eqb (b .«out_len» .0) 0)
           by-phase true true = sym (and-all (leb (b .«out_len» .0) (b .limits .allocated)))

@@ -103,6 +103,10 @@ pub copying-none : {src dst : List ℕ} {from to n : ℕ} → from + n ≤ lengt
 copying-none {src} {dst} {from} {to} hs hd =
     record { in-src = hs; in-dst = hd; most = omega arith; is = copied-none (glyphs dst) (glyphs src) to from; len = refl }
 
+-- within one slice
+pub copying-within : {ws : List ℕ} {from to n : ℕ} → to ≤ from → from + n ≤ length (glyphs ws) → Copying ws ws from to n ws 0
+copying-within o h = copying-none h (omega arith)
+
 pub copying-more : {src dst₀ : List ℕ} {from to n : ℕ} {dst dst′ : List ℕ} {i : ℕ} {g : Glyph ℕ} → Copying src dst₀ from to n dst i → i < n
     → g ≡ getD (glyphs src) (from + i) zeroGlyph → glyphs dst′ ≡ set (glyphs dst) (to + i) g → length dst′ ≡ length dst → Copying src dst₀ from to n dst′ (i + 1)
 copying-more {src} {dst₀} {from} {to} {n} {dst} {dst′} {i} {g} v h eg ep el =
@@ -121,6 +125,9 @@ pub copying-down : {ws₀ : List ℕ} {from to n : ℕ} {ws ws′ : List ℕ} {i
     → g ≡ getD (glyphs ws) (from + i) zeroGlyph → glyphs ws′ ≡ set (glyphs ws) (to + i) g → length ws′ ≡ length ws → Copying ws₀ ws₀ from to n ws′ (i + 1)
 copying-down {ws₀} {from} {to} {n} {ws} {ws′} {i} {g} v o h eg ep el =
     copying-more v h (eg ∙ rw (v .is) (copied-after zeroGlyph (glyphs ws₀) (glyphs ws₀) to from i (from + i) (omega arith) (omega arith) (omega arith))) ep el
+
+pub copying-room : {ws₀ : List ℕ} {from to n : ℕ} {ws : List ℕ} {i : ℕ} → Copying ws₀ ws₀ from to n ws i → i < n → from + i < length (glyphs ws)
+copying-room {ws₀} {from} {to} {n} {ws} v h = omega (arith, v .in-src, glyphs-same ws ws₀ (v .len))
 
 pub copying-done : {src dst₀ : List ℕ} {from to n : ℕ} {dst : List ℕ} {i : ℕ} → Copying src dst₀ from to n dst i → n ≤ i → glyphs dst ≡ copied (glyphs dst₀) to (glyphs src) from n
 copying-done {src} {dst₀} {from} {to} {n} {dst} {i} v h =

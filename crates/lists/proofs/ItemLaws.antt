@@ -1,6 +1,6 @@
 -- What a buffer shows, one thing after the other: where each thing lies, and how many there are.
 use mathlib.Core.{Path._≡_, Path.refl, Path.sym, Path.ap, Path._∙_, Bool.Bool, Bool.true, Bool.false, Bool.cond, Bool.false≢true, List.List, List.[], List._∷_, List._++_, List.map}
-use Prim.Native.Nat.{ℕ, zero, suc, _+_, _-_, _≤_, _<_}
+use Prim.Native.Nat.{ℕ, zero, suc, _+_, _-_, _^_, _≤_, _<_}
 use native.Mathlib.Nat.{le-of-suc-le-suc, not-suc-le-zero}
 use native.Mathlib.Omega.{arith}
 use lib.{ListN.length, ListN.getD, ListN.take, ListN.length-map, ListN.length-append, ListN.List·getD-append, ListN.List·getD-eq-default, Seq.slice, Seq.getD-take, Seq.getD-drop, Seq.getD-append-add, Seq.length-take-le}
@@ -9,10 +9,11 @@ use Rattle.records.proofs.{View.stored-seen, View.glyphs-same, View.placements-
 use Rattle.records.specs.declared.Glyph.{Glyph as Words}
 use Rattle.lists.specs.declared.{Buffer.Buffer, Item.Item, Item.the-variants.OfDone, Item.the-variants.OfPassed, Item.the-variants.OfRest, Item.the-variants.Placed, Item.the-variants.Nothing}
 use Rattle.lists.specs.Account.{Account, outputPhase, positionsPhase, spoiledPhase, input, positions, outLen}
-use Rattle.lists.specs.State.{shown, goneOf, accountOf, account, sound, Held}
+use Rattle.lists.specs.State.{shown, goneOf, accountOf, account, sound, Soundness, Held}
 use Rattle.lists.specs.Items.{items}
-use Rattle.lists.proofs.Accounts.{positions-of, length-shown, out-of, rest-of, gone-in, passed-of, gone-spoiled, places-in, input-length, sound-held}
+use Rattle.lists.proofs.Accounts.{positions-of, length-shown, out-of, rest-of, gone-in, passed-of, gone-spoiled, places-in, gone-within, input-length, sound-held, held-turned}
 use Rattle.lists.proofs.Calls.{account-first, account-second}
+use Rattle.lists.proofs.Decisions.{is-sound, is-unsound}
 use Rattle.lists.proofs.Outputs.{gone-without}
 use Rattle.lists.proofs.Simple.{input-of, on-account}
 
@@ -65,16 +66,16 @@ stored-at p run other i h k =
     ∙ (ap (λ (l : List Words). getD l i (stored zeroGlyph)) (shown-stored p run other h) ∙ map-at stored (glyphs run) i zeroGlyph (stored zeroGlyph) k)
 
 -- ---- positions by themselves
-module _ (t : Bool) (ps : List Position) (n k : ℕ) where
-  pub place-at : {q : Position} → t ≡ true → k < n → n ≤ length ps → q ≡ getD ps k zeroPosition → Placed q ≡ getD (map Placed (cond t (take n ps) [])) k Nothing
-  place-at h i l e =
+module _ (p : Phase) {t : Bool} (ps : List Position) {n k : ℕ} (l : n ≤ length ps) (e : t ≡ positionsPhase p) (h : t ≡ true) where
+  pub place-at : {q : Position} → k < n → q ≡ getD ps k zeroPosition → Placed q ≡ getD (map Placed (cond (positionsPhase p) (take n ps) [])) k Nothing
+  place-at i eq =
       let m : length (take n ps) ≡ n = length-take-le n ps l in
-      rw h (sym (map-at Placed (take n ps) k zeroPosition Nothing (omega arith) ∙ ap Placed (getD-take n ps k zeroPosition i ∙ sym e)))
+      rw (sym e ∙ h) (sym (map-at Placed (take n ps) k zeroPosition Nothing (omega arith) ∙ ap Placed (getD-take n ps k zeroPosition i ∙ sym eq)))
 
-  pub place-past : t ≡ true → n ≤ k → n ≤ length ps → Nothing ≡ getD (map Placed (cond t (take n ps) [])) k Nothing
-  place-past h i l =
+  pub place-past : n ≤ k → Nothing ≡ getD (map Placed (cond (positionsPhase p) (take n ps) [])) k Nothing
+  place-past i =
       let m : length (map Placed (take n ps)) ≡ n = length-map (take n ps) Placed ∙ length-take-le n ps l in
-      rw h (sym (List·getD-eq-default (map Placed (take n ps)) Nothing (omega arith)))
+      rw (sym e ∙ h) (sym (List·getD-eq-default (map Placed (take n ps)) Nothing (omega arith)))
 
 -- ---- where each thing lies
 module _ (b : Buffer) (run other : List ℕ) (v : Held b run other) where
@@ -191,39 +192,60 @@ module _ (b : Buffer) (run other : List ℕ) (v : Held b run other) where
   count-plain : positionsPhase (b .phase) ≡ false → length (items shows) ≡ b .«out_len» .0 + (b .len .0 - goneOf b)
   count-plain h = items-length ∙ rw h (omega arith)
 
--- ---- of a sound buffer, and of one that is not
-module _ (b : Buffer) (f s : List ℕ) where
-  module _ (h : sound b f s ≡ true) where
-    v : Held b f s
-    v = sound-held b f s h
+-- ---- of a sound buffer
+module _ (b : Buffer) (f s : List ℕ) (h : sound b f s ≡ true) where
+  v : Held b f s
+  v = sound-held b f s h
 
-    module _ {gone n : ℕ} (e : gone ≡ goneOf b) (en : n ≡ b .len .0 - gone) where
-      pub count-with-positions : positionsPhase (b .phase) ≡ true → n + n ≡ cond (sound b f s) (length (items (account b f s))) 0
-      count-with-positions p = rw (h, en, e) (sym (on-account b f s (λ a. length (items a) ≡ b .len .0 - goneOf b + (b .len .0 - goneOf b)) v (λ run other w. count-placed b run other w p)))
+  counted-placed : positionsPhase (b .phase) ≡ true → length (items (account b f s)) ≡ b .len .0 - goneOf b + (b .len .0 - goneOf b)
+  counted-placed p = on-account b f s (λ a. length (items a) ≡ b .len .0 - goneOf b + (b .len .0 - goneOf b)) v (λ run other w. count-placed b run other w p)
 
-      pub count-without : positionsPhase (b .phase) ≡ false → b .«out_len» .0 + n ≡ cond (sound b f s) (length (items (account b f s))) 0
-      count-without p = rw (h, en, e) (sym (on-account b f s (λ a. length (items a) ≡ b .«out_len» .0 + (b .len .0 - goneOf b)) v (λ run other w. count-plain b run other w p)))
+  counted-plain : positionsPhase (b .phase) ≡ false → length (items (account b f s)) ≡ b .«out_len» .0 + (b .len .0 - goneOf b)
+  counted-plain p = on-account b f s (λ a. length (items a) ≡ b .«out_len» .0 + (b .len .0 - goneOf b)) v (λ run other w. count-plain b run other w p)
 
-    -- a spoiled buffer shows nothing
-    pub items-spoiled : spoiledPhase (b .phase) ≡ true → items (account b f s) ≡ []
-    items-spoiled p =
-        let q = spoiled-clean (b .phase) p in
-        let many : b .«out_len» .0 + (b .len .0 - goneOf b) ≡ length (items (account b f s)) = rw h at (count-without refl refl (q .0)) in
-        empty (items (account b f s)) (omega (arith, gone-spoiled b p, v .none (q .1)))
+  -- a spoiled buffer shows nothing
+  pub items-spoiled : spoiledPhase (b .phase) ≡ true → items (account b f s) ≡ []
+  items-spoiled p = let q = spoiled-clean (b .phase) p in empty (items (account b f s)) (omega (arith, counted-plain (q .0), gone-spoiled b p, v .none (q .1)))
 
-    pub items-most : length (items (account b f s)) ≤ 2097152
-    items-most = on-account b f s (λ a. length (items a) ≤ 2097152) v (λ run other w. by-test run other w (positionsPhase (b .phase)) refl)
-      where
-        by-test : (run other : List ℕ) (w : Held b run other) (t : Bool) → positionsPhase (b .phase) ≡ t → length (items (accountOf b run other)) ≤ 2097152
-        by-test run other w true p = omega (arith, count-placed b run other w p)
-        by-test run other w false p = omega (arith, count-plain b run other w p)
+  pub items-most : length (items (account b f s)) ≤ 2097152
+  items-most = by-test (positionsPhase (b .phase)) refl
+    where
+      by-test : (t : Bool) → positionsPhase (b .phase) ≡ t → length (items (account b f s)) ≤ 2097152
+      by-test true p = omega (arith, counted-placed p, v .len-in, v .all-in, v .most)
+      by-test false p = omega (arith, counted-plain p, v .len-in, v .out-in, v .all-in, v .most)
+
+-- ---- as the code tests: of a sound buffer, and of one that is not
+module _ {b : Buffer} {f s : List ℕ} {t : Bool} (w : Soundness b f s t) where
+  pub none-unsound : {A : Type 0} (x : A) {z : A} → t ≡ false → z ≡ cond (sound b f s) x z
+  none-unsound x h = rw (is-unsound w h)
+
+  module _ (h : t ≡ true) where
+    pub held-first : Held b f s
+    held-first = sound-held b f s (is-sound w h)
+
+    pub held-second : Held b s f
+    held-second = held-turned b f s held-first
 
     module _ {r : Item} (k : ℕ) where
       pub item-second : b .swapped ≡ true → r ≡ getD (items (accountOf b s f)) k Nothing → r ≡ cond (sound b f s) (getD (items (account b f s)) k Nothing) Nothing
-      item-second g e = rw (h, account-second b f s g) e
+      item-second g e = rw (is-sound w h, account-second b f s g) e
 
       pub item-first : b .swapped ≡ false → r ≡ getD (items (accountOf b f s)) k Nothing → r ≡ cond (sound b f s) (getD (items (account b f s)) k Nothing) Nothing
-      item-first g e = rw (h, account-first b f s g) e
+      item-first g e = rw (is-sound w h, account-first b f s g) e
 
-  pub none-unsound : {A : Type 0} (x : A) {z : A} → sound b f s ≡ false → z ≡ cond (sound b f s) x z
-  none-unsound x h = rw h
+    module _ {gone : ℕ} (e : gone ≡ goneOf b) where
+      pub gone-below : gone ≤ b .len .0
+      gone-below = omega (arith, e, gone-within b f s held-first)
+
+      pub twice-fits : b .len .0 - gone + (b .len .0 - gone) < 2 ^ 64
+      twice-fits = let v = held-first in omega arith
+
+      pub both-fit : b .«out_len» .0 + (b .len .0 - gone) < 2 ^ 64
+      both-fit = let v = held-first in omega arith
+
+      module _ {p : Bool} (ep : p ≡ positionsPhase (b .phase)) where
+        pub count-with-positions : p ≡ true → b .len .0 - gone + (b .len .0 - gone) ≡ cond (sound b f s) (length (items (account b f s))) 0
+        count-with-positions q = rw (is-sound w h, e) (sym (counted-placed b f s (is-sound w h) (sym ep ∙ q)))
+
+        pub count-without : p ≡ false → b .«out_len» .0 + (b .len .0 - gone) ≡ cond (sound b f s) (length (items (account b f s))) 0
+        count-without q = rw (is-sound w h, e) (sym (counted-plain b f s (is-sound w h) (sym ep ∙ q)))

@@ -3,6 +3,7 @@ use Prim.Native.Nat.{_-_}
 use native.Mathlib.Omega.{arith}
 use Rattle.records.proofs.View.{glyphs-fit}
 use Rattle.lists.proofs.Copying.{Copying, copying-none, copying-more, copying-done}
+use borrow.Author.Needs.{needs}
 use Rattle.lists.proofs.copies.copy_across.Statement.{statement}
 use Rattle.lists.proofs.copies.copy_across.Tie as tie
 
@@ -13,16 +14,16 @@ abbrev μ-loop : tie.MeasureT-loop
 μ-loop src dst₀ from to n i₀ dst i = n - i
 
 loop-holds : tie.Need-loop-holds Inv-loop μ-loop
-loop-holds c = let s = c .before .before in copying-none (s .pre .0) (s .pre .1)
+loop-holds c = search copying-none
 
 add-get : tie.Need-add-get Inv-loop μ-loop
-add-get c = omega (arith, glyphs-fit (c .before .before .before .before .args .src .now))
+add-get c = let start : tie.Start Inv-loop μ-loop = search in omega (arith, glyphs-fit (start .args .src .now))
 
 get-requires : tie.Need-get-requires Inv-loop μ-loop
 get-requires c κs = omega arith
 
 add-put : tie.Need-add-put Inv-loop μ-loop
-add-put c = omega (arith, glyphs-fit (c .before .before .before .before .before .before .args .dst .now))
+add-put c = let start : tie.Start Inv-loop μ-loop = search in omega (arith, glyphs-fit (start .args .dst .now))
 
 put-requires : tie.Need-put-requires Inv-loop μ-loop
 put-requires c κs = omega arith
@@ -34,17 +35,13 @@ loop-less : tie.Need-loop-less Inv-loop μ-loop
 loop-less c = omega arith
 
 loop-again : tie.Need-loop-again Inv-loop μ-loop
-loop-again c =
-    let put = c .before .before in
-    let get = put .before .before in
-    let turn = get .before in
-    copying-more (turn .before .loop .inv) (turn .loop-test .taken) (get .get .ensures) (put .put .ensures) (put .put .kept .0)
+loop-again c = search copying-more
 
 same-length : tie.Need-same-length Inv-loop μ-loop
-same-length c = c .before .loop .inv .len
+same-length c = search needs
 
 returns : tie.Need-returns Inv-loop μ-loop
-returns c = copying-done (c .before .loop .inv) (c .loop-test .left)
+returns c = search copying-done
 
 pub copy-across-spec : {M : Type 1} → statement M
 copy-across-spec = tie.close (tie.spec Inv-loop μ-loop loop-holds add-get get-requires add-put put-requires add-i loop-less loop-again same-length returns)

@@ -2,6 +2,7 @@
 use native.Mathlib.Omega.{arith}
 use Rattle.records.proofs.View.{glyphs-fit}
 use Rattle.lists.proofs.Copying.{Rising, rising-none, rising-more, rising-done}
+use borrow.Author.Needs.{needs}
 use Rattle.lists.proofs.copies.copy_up.Statement.{statement}
 use Rattle.lists.proofs.copies.copy_up.Tie as tie
 
@@ -12,19 +13,19 @@ abbrev μ-loop : tie.MeasureT-loop
 μ-loop ws₀ from to n i₀ ws i = i
 
 loop-holds : tie.Need-loop-holds Inv-loop μ-loop
-loop-holds c = let s = c .before in rising-none (s .pre .0) (s .pre .1)
+loop-holds c = search rising-none
 
 sub-i : tie.Need-sub-i Inv-loop μ-loop
 sub-i c = omega arith
 
 add-get : tie.Need-add-get Inv-loop μ-loop
-add-get c = omega (arith, glyphs-fit (c .before .before .before .before .args .ws .now))
+add-get c = let start : tie.Start Inv-loop μ-loop = search in omega (arith, glyphs-fit (start .args .ws .now))
 
 get-requires : tie.Need-get-requires Inv-loop μ-loop
 get-requires c κs = omega arith
 
 add-put : tie.Need-add-put Inv-loop μ-loop
-add-put c = omega (arith, glyphs-fit (c .before .before .before .before .before .before .args .ws .now))
+add-put c = let start : tie.Start Inv-loop μ-loop = search in omega (arith, glyphs-fit (start .args .ws .now))
 
 put-requires : tie.Need-put-requires Inv-loop μ-loop
 put-requires c κs = omega arith
@@ -33,17 +34,13 @@ loop-less : tie.Need-loop-less Inv-loop μ-loop
 loop-less c = omega arith
 
 loop-again : tie.Need-loop-again Inv-loop μ-loop
-loop-again c =
-    let put = c .before .before in
-    let get = put .before .before in
-    let turn = get .before .before in
-    rising-more (turn .before .loop .inv) (turn .loop-test .taken) (get .get .ensures) (put .put .ensures) (put .put .kept .0)
+loop-again c = search rising-more
 
 same-length : tie.Need-same-length Inv-loop μ-loop
-same-length c = c .before .loop .inv .len
+same-length c = search needs
 
 returns : tie.Need-returns Inv-loop μ-loop
-returns c = rising-done (c .before .loop .inv) (c .loop-test .left)
+returns c = search rising-done
 
 pub copy-up-spec : {M : Type 1} → statement M
 copy-up-spec = tie.close (tie.spec Inv-loop μ-loop loop-holds sub-i add-get get-requires add-put put-requires loop-less loop-again same-length returns)
