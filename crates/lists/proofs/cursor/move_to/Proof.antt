@@ -5,7 +5,7 @@ use Rattle.lists.proofs.cursor.move_to.Statement.{statement}
 use Rattle.lists.proofs.cursor.move_to.Tie as tie
 
 move-by-requires : tie.Need-move-by-requires
-move-by-requires c κs = c .before .before .before .move-verdict .ensures .is .asked (c .before .before .if1 .taken)
+move-by-requires c κs = let at : tie.After-move-verdict = search in at .move-verdict .ensures .is .asked (search)
 
 same-length : tie.Need-same-length
 same-length c = ⊎-elim (λ w. search (kept-length, needs)) (λ w. search (kept-length, needs)) (c .before .if1 .came)

@@ -5,7 +5,7 @@ use Rattle.lists.proofs.cursor.next_glyph.Statement.{statement}
 use Rattle.lists.proofs.cursor.next_glyph.Tie as tie
 
 carry-by-requires : tie.Need-carry-by-requires
-carry-by-requires c κs = c .before .before .before .next-verdict .ensures .asked (c .before .before .if1 .taken)
+carry-by-requires c κs = let at : tie.After-next-verdict = search in at .next-verdict .ensures .asked (search)
 
 same-length : tie.Need-same-length
 same-length c = ⊎-elim (λ w. search (kept-length, needs)) (λ w. search (kept-length, needs)) (c .before .if1 .came)

@@ -5,10 +5,10 @@ use Rattle.lists.proofs.cursor.sync.Statement.{statement}
 use Rattle.lists.proofs.cursor.sync.Tie as tie
 
 sub-n : tie.Need-sub-n
-sub-n c = c .before .before .sync-verdict .ensures .asked (c .before .if1 .taken) .0
+sub-n c = let at : tie.After-sync-verdict = search in at .sync-verdict .ensures .asked (search) .0
 
 carry-by-requires : tie.Need-carry-by-requires
-carry-by-requires c κs = c .before .before .before .before .sync-verdict .ensures .asked (c .before .before .before .if1 .taken) .1
+carry-by-requires c κs = let at : tie.After-sync-verdict = search in at .sync-verdict .ensures .asked (search) .1
 
 same-length : tie.Need-same-length
 same-length c = ⊎-elim (λ w. search (kept-length, needs)) (λ w. search (kept-length, needs)) (c .before .if1 .came)
