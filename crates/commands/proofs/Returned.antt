@@ -6,7 +6,7 @@ use lib.{ListN.length, ListN.drop, ListN.length-map}
 use Rattle.records.specs.{Contradiction, Answers.ok, Counters.capacityOf, Counters.rightlyLent}
 use Rattle.lists.specs.declared.{Buffer.Buffer, Reply.Reply}
 use Rattle.lists.specs.{Account.Account, Account.renamed, Results.Result, Results.Outcome, Results.refused, Results.outcome, Results.refuse_when_else_, State.account, State.sound, Contract.outcomeOf, Contract.Begins}
-use Rattle.lists.proofs.{Renaming.begun-renamed, Accounts.sound-lent, Chains.meets-sound, Simple.refuse-yes}
+use Rattle.lists.proofs.{Renaming.begun-renamed, SoundLaws.sound-lent, Chains.meets-sound, Simple.refuse-yes}
 use Rattle.commands.specs.{Calls.Worded, Calls.perform, Calls.step, Calls.run, Bytes.readUpTo, Bytes.runRead, Renaming.renamedOutcome, Renaming.reworded, Renaming.renamedBytes}
 use Rattle.commands.specs.{Steps.called, Runs.lastOf, Runs.outcomes, Runs.Runs}
 use Rattle.commands.specs.Lines.{lastLine}

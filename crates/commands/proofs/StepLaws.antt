@@ -8,7 +8,7 @@ use Rattle.records.specs.{Contradiction, Unreadable as Unread, No, Bytes.wordsA
 use Rattle.records.proofs.ByteLaws.{words-of-part}
 use Rattle.lists.specs.declared.{Buffer.Buffer, Reply.Reply}
 use Rattle.lists.specs.{Results.Result, Results.refused, Results.outcome, Results.refuse_when_else_, State.account, State.sound, States.reply, Contract.judged, Contract.Meets}
-use Rattle.lists.proofs.{Accounts.sound-lent, Calls.judged-sound, Calls.judged-unsound, Calls.outcome-refused, Simple.refuse-no}
+use Rattle.lists.proofs.{SoundLaws.sound-lent, Calls.judged-sound, Calls.judged-unsound, Calls.outcome-refused, Simple.refuse-no}
 use Rattle.edits.specs.Writing.{replaceGlyphs}
 use Rattle.commands.specs.Calls.{Worded, perform, step, c0E-replace-glyphs}
 use Rattle.commands.specs.Bytes.{Read, unreadable, got}

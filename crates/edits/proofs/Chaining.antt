@@ -5,7 +5,7 @@ use lib.{ListN.length}
 use Rattle.records.specs.{View.wordsFrom}
 use Rattle.lists.specs.declared.{Buffer.Buffer}
 use Rattle.lists.specs.{Account.Account, State.accountOf}
-use Rattle.lists.proofs.{Accounts.held-lengths}
+use Rattle.lists.proofs.{SoundLaws.held-lengths}
 use Rattle.edits.specs.{Acts.Acts}
 
 module _ {h : Account ℕ → Account ℕ} {b f : Buffer} {run other run₁ other₁ : List ℕ} (u : Acts h b run other f run₁ other₁) where

@@ -8,7 +8,7 @@ use Rattle.records.specs.declared.{Glyph.Glyph as Words}
 use Rattle.records.proofs.View.{glyphs-same}
 use Rattle.lists.specs.declared.{Buffer.Buffer, Verdict.Verdict}
 use Rattle.lists.specs.{Account.Account, Account.readLevel, Account.outputPhase, Account.hasOutput, Cursor.dropping, Results.refused, Results.accepted, Results.refuse_when_else_, State.accountOf, State.goneOf, State.sound, States.reply, States.atPlaces, States.withLimitsOf, Verdicts.leaving, Verdicts.Leaves, Verdicts.settledBuffer, Verdicts.settled, Verdicts.Sided}
-use Rattle.lists.proofs.{Accounts.output-of, Accounts.sound-held}
+use Rattle.lists.proofs.{Accounts.output-of, SoundLaws.sound-held}
 use Rattle.lists.proofs.Decisions.{acts-is, settles-refused, meets-sided}
 use Rattle.edits.specs.{Acts.Acts, Charges.leftWith, Charges.DecidedBy, Deleting.deleted, Deleting.deleteGlyph, Merging.merge, Merging.clustersMerge, MergeActs.mergeLimits, MergeActs.Merges}
 use Rattle.edits.specs.Deletes.{Deletable, laid, DeleteRoom, NextFound, LastFound, Surviving, SurvivingBy, Inherits, Deletes, mergedWith}

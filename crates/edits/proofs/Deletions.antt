@@ -9,7 +9,7 @@ use Rattle.records.specs.declared.{Glyph.Glyph as Words}
 use Rattle.records.proofs.{View.length-clusters, View.whole-same, View.cluster-of, View.seen-mask, View.seen-cluster, Renaming.append-map}
 use Rattle.lists.specs.declared.{Buffer.Buffer}
 use Rattle.lists.specs.{Account.readLevel, Account.Account, Account.outLen, Account.withDone, Cursor.dropping, State.accountOf, State.goneOf, State.Held, States.atPlaces, States.withLimitsOf}
-use Rattle.lists.proofs.{Accounts.output-clean, Accounts.out-of, Accounts.held-lengths, Copying.range-same, Simple.dropping-of}
+use Rattle.lists.proofs.{Accounts.output-clean, Accounts.out-of, SoundLaws.held-lengths, Copying.range-same, Simple.dropping-of}
 use Rattle.edits.specs.{Acts.Acts, Acts.Mergeful, Deletes.Deletable, Deletes.nextHas, Deletes.lastHas, Deletes.inheriting, Deleting.current, Deleting.inherited, Deleting.survives, Deleting.deleted, Deleting.mergedForward, Merging.merge, Merging.clustersMerge}
 use Rattle.lists.proofs.Outputs.{output-cong, gone-output, output-account, beyond}
 use Rattle.edits.proofs.Holding.{edit-take, edit-drop-behind, clusters-take}

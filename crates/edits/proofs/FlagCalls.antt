@@ -8,7 +8,7 @@ use Rattle.records.specs.{Phase, Plain, Output, Positions, Spoiled, InputPlace,
 use Rattle.records.proofs.View.{glyphs-same}
 use Rattle.lists.specs.declared.{Buffer.Buffer, Verdict.Verdict}
 use Rattle.lists.specs.{Account.readLevel, Account.Account, Account.State, Account.outputPhase, Account.spoiledPhase, Account.isSpoiled, Account.len, Account.withLimits, Results.refused, Results.accepted, Results.refuse_when_else_, State.shown, State.goneOf, State.stateOf, State.accountOf, State.sound, State.Held, States.withLimitsOf, Verdicts.Leaves, Verdicts.settled, Verdicts.Sided, Verdicts.Decided}
-use Rattle.lists.proofs.{Accounts.spoiled-of, Accounts.len-of, Accounts.gone-of, Accounts.wants-of, Accounts.sound-held, Decisions.near-same, Decisions.accepts, Decisions.decided-unsound, Decisions.decided-refused, Decisions.decided-accepted, Decisions.decided-does}
+use Rattle.lists.proofs.{Accounts.spoiled-of, Accounts.len-of, Accounts.gone-of, Accounts.wants-of, SoundLaws.sound-held, Decisions.near-same, Decisions.accepts, Decisions.decided-unsound, Decisions.decided-refused, Decisions.decided-accepted, Decisions.decided-does}
 use Rattle.edits.specs.declared.{InputBound.InputBound}
 use Rattle.edits.specs.{Acts.Acts, Acts.Mergeful, Bounds.inputBound, Bounds.inputNumber, Flags.interior, Flags.sought, Flags.flagInterior, Flags.flagAll, Flags.number, Flags.tooFar, Flags.startOf, Flags.endOf, Flags.plainForm, Flags.wantsConcat, Flags.wantsTatweel, Holding.holds, Marks.flaggedRun, Marks.Flaggable, Marks.Flagged, Marks.FlagsInput, Plans.InputRange, Plans.InputFrom}
 use Rattle.edits.proofs.BoundLaws.{end-most}

@@ -9,7 +9,7 @@ use Rattle.records.specs.{InputPlace, Contradiction, WrongPhase, OutOfRange, Do
 use Rattle.records.proofs.View.{glyphs-same}
 use Rattle.lists.specs.declared.{Buffer.Buffer, Verdict.Verdict}
 use Rattle.lists.specs.{Account.Account, Account.readLevel, Account.spoiledPhase, Account.isSpoiled, Results.refused, Results.accepted, Results.refuse_when_else_, State.goneOf, State.accountOf, State.sound, State.Soundness, States.withLimitsOf, Verdicts.Leaves, Verdicts.settled, Verdicts.Sided, Verdicts.Decided}
-use Rattle.lists.proofs.{Accounts.spoiled-of, Accounts.level-of, Accounts.gone-of, Accounts.sound-held}
+use Rattle.lists.proofs.{Accounts.spoiled-of, Accounts.level-of, Accounts.gone-of, SoundLaws.sound-held}
 use Rattle.lists.proofs.Decisions.{near-limits, leaves-as, decided-unsound, decided-refused, decided-does}
 use Rattle.edits.specs.{Acts.Acts, Acts.Mergeful, Charges.running, Charges.MergesRun, Flags.interior, Flags.sought, Merging.merge, Merging.merged, Merging.mergeInput, Merging.outsideInput, Merging.clustersMerge, Merging.graphemesMerge, Plans.WrittenApart, Plans.WrittenWithin}
 use Rattle.edits.specs.MergeActs.{mergeLimits, liesApart, MergeRoom, Merges, MergesInput}

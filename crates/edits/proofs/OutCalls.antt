@@ -8,7 +8,7 @@ use Rattle.records.specs.{DonePlace, Contradiction, WrongPhase, OutOfRange, Don
 use Rattle.records.proofs.View.{glyphs-same}
 use Rattle.lists.specs.declared.{Buffer.Buffer, Verdict.Verdict}
 use Rattle.lists.specs.{Account.readLevel, Account.Account, Account.outputPhase, Account.hasOutput, Account.outLen, Account.withLimits, Results.refused, Results.accepted, Results.refuse_when_else_, State.goneOf, State.stateOf, State.accountOf, State.sound, States.withLimitsOf, Verdicts.Leaves, Verdicts.settled, Verdicts.Sided, Verdicts.Decided}
-use Rattle.lists.proofs.{Accounts.output-of, Accounts.out-of, Accounts.level-of, Accounts.sound-held}
+use Rattle.lists.proofs.{Accounts.output-of, Accounts.out-of, Accounts.level-of, SoundLaws.sound-held}
 use Rattle.lists.proofs.Decisions.{near-limits, decided-unsound, decided-refused, decided-does}
 use Rattle.lists.proofs.Outputs.{gone-out, shown-output}
 use Rattle.edits.specs.declared.{OutMerge.OutMerge}

@@ -7,7 +7,7 @@ use lib.{Dec.ltb, ListN.length, ListN.take, ListN.getD}
 use Rattle.records.specs.{WrongPhase, OutOfRange, BadOperand, Limits, Glyphs.Glyph, Glyphs.Info, Ranges.copies, View.glyphs, View.zeroGlyph}
 use Rattle.lists.specs.declared.{Buffer.Buffer}
 use Rattle.lists.specs.{Account.readLevel, Account.Account, Account.outputPhase, Account.hasOutput, Account.sized, Account.limiting, Account.withLimits, Cursor.dropping, Results.refused, Results.refuse_when_else_, State.accountOf, State.goneOf, State.Held, States.withLimitsOf}
-use Rattle.lists.proofs.{Accounts.output-clean, Accounts.held-lengths, Accounts.level-of, Outputs.gone-output}
+use Rattle.lists.proofs.{Accounts.output-clean, SoundLaws.held-lengths, Accounts.level-of, Outputs.gone-output}
 use Rattle.edits.specs.{Acts.Acts, Acts.Roomy, Acts.Mergeful, Acts.replacing, Merging.merge, Merging.clustersMerge, Replaces.replaced, Replaces.writesReplaced, Writing.written, Writing.model, Writing.replaceGlyphs}
 use Rattle.edits.proofs.Acting.{take-copies}
 use Rattle.edits.proofs.Chaining.{acts-as, acts-then}

@@ -8,7 +8,7 @@ use Rattle.records.specs.{WrongPhase, No, Counters.capacityOf, Glyphs.Glyph, Vi
 use Rattle.records.proofs.View.{beyond-glyphs, beyond-placements, whole-same}
 use Rattle.lists.specs.declared.{Buffer.Buffer, Reply.Reply}
 use Rattle.lists.specs.{Account.Account, Account.outputPhase, Account.spoiledPhase, Account.idx, Account.withRest, Contract.MeetsIn, Results.Result, Results.refused, State.shown, State.goneOf, State.stateOf, State.accountOf, State.Held, States.reply}
-use Rattle.lists.proofs.{Outputs.gone-without, Accounts.output-of, Accounts.spoiled-of, Accounts.idx-of, Accounts.rest-of, Accounts.held-lengths, Calls.in-refused}
+use Rattle.lists.proofs.{Outputs.gone-without, Accounts.output-of, Accounts.spoiled-of, Accounts.idx-of, Accounts.rest-of, SoundLaws.held-lengths, Calls.in-refused}
 use Rattle.edits.specs.{Acts.Acts, WholeRun.notWhole, Wholes.WholeInput}
 use Rattle.edits.proofs.Holding.{behind-further}
 use Rattle.edits.proofs.MergeCalls.{neither-left, neither-right}

@@ -13,7 +13,8 @@ use Rattle.lists.specs.States.{withLimitsOf, atPlaces}
 use Rattle.lists.specs.Contract.{Moves}
 use Rattle.lists.specs.Moving.{Movable, Returned, Backing, BackOver, backVerdict, Backs, shiftVerdict, Shifts, MovesBack}
 use Rattle.lists.specs.Verdicts.{leaving, Leaves, failedBuffer}
-use Rattle.lists.proofs.Accounts.{sound-held, fits-within}
+use Rattle.lists.proofs.SoundLaws.{sound-held}
+use Rattle.lists.proofs.SizeLaws.{fits-within}
 use Rattle.lists.proofs.ForwardLaws as forths
 use Rattle.lists.proofs.BackLaws as backs
 use Rattle.lists.proofs.Moving.{Returnable, shift-moves, return-moves}

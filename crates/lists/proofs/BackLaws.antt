@@ -13,7 +13,8 @@ use Rattle.lists.specs.States.{reply, withLimitsOf, atPlaces}
 use Rattle.lists.specs.Contract.{isNo, accountIn, MeetsIn, Moves}
 use Rattle.lists.specs.Moving.{SyncOutput}
 use Rattle.lists.specs.Cursor.{back, cursorAt, growing, swapped, paysFor, forward, goesBack, backward, moveTo}
-use Rattle.lists.proofs.Accounts.{output-clean, output-of, spoiled-of, limits-of, out-of, rest-of, idx-of, len-of, held-lengths}
+use Rattle.lists.proofs.Accounts.{output-clean, output-of, spoiled-of, limits-of, out-of, rest-of, idx-of, len-of}
+use Rattle.lists.proofs.SoundLaws.{held-lengths}
 use Rattle.lists.proofs.Moving.{Shiftable, Returnable}
 use Rattle.lists.proofs.Simple.{cursor-of}
 use Rattle.lists.proofs.Calls.{in-refused, in-answered, in-call}

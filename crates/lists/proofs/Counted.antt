@@ -5,7 +5,8 @@ use native.Mathlib.Omega.{arith}
 use Rattle.lists.specs.declared.{Buffer.Buffer}
 use Rattle.lists.specs.Account.{Account, spoiledPhase, len, idx, outLen}
 use Rattle.lists.specs.State.{accountOf, account, sound, Held}
-use Rattle.lists.proofs.Accounts.{gone-of, gone-spoiled, input-spoiled, spoiled-of, limits-of, len-of, idx-of, out-of, sound-held, held-turned}
+use Rattle.lists.proofs.Accounts.{gone-of, gone-spoiled, input-spoiled, spoiled-of, limits-of, len-of, idx-of, out-of}
+use Rattle.lists.proofs.SoundLaws.{sound-held, held-turned}
 
 -- a spoiled buffer keeps its length and shows no list
 spoiled-len : (b : Buffer) (run other : List ℕ) → spoiledPhase (b .phase) ≡ true → len (accountOf b run other) ≡ b .len .0

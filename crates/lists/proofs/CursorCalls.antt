@@ -14,12 +14,15 @@ use Rattle.lists.specs.State.{accountOf, sound, Soundness, Held}
 use Rattle.lists.specs.States.{withLimitsOf, atPlaces}
 use Rattle.lists.specs.Moving.{Carriable, Carried}
 use Rattle.lists.specs.Verdicts.{Leaves, wroteBuffer, liesElsewhere, settled, Decided}
-use Rattle.lists.proofs.Accounts.{output-of, spoiled-of, limits-of, limited-of, idx-of, len-of, sound-held, fits-within}
+use Rattle.lists.proofs.Accounts.{output-of, spoiled-of, limits-of, limited-of, idx-of, len-of}
+use Rattle.lists.proofs.SoundLaws.{sound-held, is-sound}
+use Rattle.lists.proofs.SizeLaws.{fits-within}
 use Rattle.lists.proofs.Simple.{refuse-yes, refuse-no, cursor-of, dropping-of}
 use Rattle.lists.proofs.Inner.{held-limits, few-left, enough-left}
 use Rattle.lists.proofs.SyncLaws.{NextOutput, next-room, next-ready, next-moves}
-use Rattle.lists.proofs.Moving.{carried-none, forward-moves}
-use Rattle.lists.proofs.Decisions.{Lying, near-places, near-limits, near-placed, Refuses, Accepts, accepts, Does, Needs, Rooms, is-sound, decided-refused}
+use Rattle.lists.proofs.Carrying.{carried-none}
+use Rattle.lists.proofs.Moving.{forward-moves}
+use Rattle.lists.proofs.Decisions.{Lying, near-places, near-limits, near-placed, Refuses, Accepts, accepts, Does, Needs, Rooms, decided-refused}
 
 -- ---- the first test of many calls
 pub spoiled-refuses : {b : Buffer} {f : List ℕ} (x : ℕ → Account ℕ → Result ℕ) → spoiledPhase (b .phase) ≡ true → Refuses (λ capacity a. refuse WrongPhase when isSpoiled a else x capacity a) b f WrongPhase

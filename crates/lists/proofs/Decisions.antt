@@ -7,11 +7,11 @@ use Rattle.records.proofs.View.{lent-same}
 use Rattle.lists.specs.declared.{Buffer.Buffer, Reply.Reply, Verdict.Verdict, Room.Room, Room.the-variants.Fits, Room.the-variants.GivesUp, Room.the-variants.Over}
 use Rattle.lists.specs.Account.{Account, failing}
 use Rattle.lists.specs.Results.{Result, outcome, refused, accepted, answered, needing}
-use Rattle.lists.specs.State.{accountOf, account, sound, Soundness, Held, roomFor}
+use Rattle.lists.specs.State.{accountOf, account, sound, Held, roomFor}
 use Rattle.lists.specs.States.{reply, withLimitsOf, atPlaces, apartBuffer}
 use Rattle.lists.specs.Contract.{isNo, judged, Meets, MeetsIn}
 use Rattle.lists.specs.Verdicts.{leaving, Leaves, Sized, bySize, wroteBuffer, failedBuffer, settledBuffer, settled, settledAs, Sided, Decided}
-use Rattle.lists.proofs.Accounts.{sound-lent, sound-held, held-turned}
+use Rattle.lists.proofs.SoundLaws.{sound-lent, sound-held, held-turned}
 use Rattle.lists.proofs.Calls.{account-first, account-second, judged-sound, shell-unsound, shell-first, shell-second, in-refused, in-accepted, in-answered}
 use Rattle.lists.proofs.Inner.{room-over, room-gives-up, held-failed, failing-of}
 
@@ -22,14 +22,6 @@ module _ {x : Bool} {P : (run other run′ other′ : List ℕ) → Type 0} {f s
 
   pub sided-second : x ≡ true → P s f s′ f′ → Sided x P f s f′ s′
   sided-second h p = record { first = λ e. absurd (false≢true (sym e ∙ h)); second = λ e. p }
-
--- ---- refusal 1, as it was tested
-module _ {b : Buffer} {f s : List ℕ} {t : Bool} (w : Soundness b f s t) where
-  pub is-sound : t ≡ true → sound b f s ≡ true
-  is-sound h = sym (w .is) ∙ h
-
-  pub is-unsound : t ≡ false → sound b f s ≡ false
-  is-unsound h = sym (w .is) ∙ h
 
 -- ---- whichever slice holds the run
 pub record Lying (b : Buffer) (f run other : List ℕ) : Type 0 where

@@ -12,7 +12,8 @@ use Rattle.lists.specs.State.{roomFor}
 use Rattle.lists.specs.States.{withLimitsOf, atPlaces}
 use Rattle.lists.specs.Moving.{Carriable, Carried, Movable, Moved, Forwarding, forwardVerdict, Forwards, MovesForward}
 use Rattle.lists.specs.Verdicts.{leaving, Leaves, failedBuffer}
-use Rattle.lists.proofs.Accounts.{sound-held, fits-within}
+use Rattle.lists.proofs.SoundLaws.{sound-held}
+use Rattle.lists.proofs.SizeLaws.{fits-within}
 use Rattle.lists.proofs.SyncLaws.{NextOutput}
 use Rattle.lists.proofs.ForwardLaws as forths
 use Rattle.lists.proofs.BackLaws as backs

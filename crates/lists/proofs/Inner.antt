@@ -13,7 +13,8 @@ use Rattle.lists.specs.State.{goneOf, stateOf, accountOf, Held, roomFor}
 use Rattle.lists.specs.States.{reply, withLimitsOf}
 use Rattle.lists.specs.Contract.{MeetsIn, Moves}
 use Rattle.lists.specs.Cursor.{swapped, paysFor}
-use Rattle.lists.proofs.Accounts.{rest-of, needing-fits, needing-gives-up, needing-over, fits-within}
+use Rattle.lists.proofs.Accounts.{rest-of}
+use Rattle.lists.proofs.SizeLaws.{needing-fits, needing-gives-up, needing-over, fits-within}
 use Rattle.lists.proofs.Calls.{in-accepted, in-answered}
 
 -- ---- sizes and limits

@@ -11,9 +11,9 @@ use Rattle.lists.specs.declared.{Buffer.Buffer, Item.Item, Item.the-vari
 use Rattle.lists.specs.Account.{Account, outputPhase, positionsPhase, spoiledPhase, input, positions, outLen}
 use Rattle.lists.specs.State.{shown, goneOf, accountOf, account, sound, Soundness, Held}
 use Rattle.lists.specs.Items.{items}
-use Rattle.lists.proofs.Accounts.{positions-of, length-shown, out-of, rest-of, gone-in, passed-of, gone-spoiled, places-in, gone-within, input-length, sound-held, held-turned}
+use Rattle.lists.proofs.Accounts.{positions-of, length-shown, out-of, rest-of, gone-in, passed-of, gone-spoiled, places-in, gone-within, input-length}
+use Rattle.lists.proofs.SoundLaws.{held-first, sound-held, held-turned, is-sound, is-unsound}
 use Rattle.lists.proofs.Calls.{account-first, account-second}
-use Rattle.lists.proofs.Decisions.{is-sound, is-unsound}
 use Rattle.lists.proofs.Outputs.{gone-without}
 use Rattle.lists.proofs.Simple.{input-of, on-account}
 
@@ -220,12 +220,6 @@ module _ {b : Buffer} {f s : List ℕ} {t : Bool} (w : Soundness b f s t) where
   none-unsound x h = rw (is-unsound w h)
 
   module _ (h : t ≡ true) where
-    pub held-first : Held b f s
-    held-first = sound-held b f s (is-sound w h)
-
-    pub held-second : Held b s f
-    held-second = held-turned b f s held-first
-
     module _ {r : Item} (k : ℕ) where
       pub item-second : b .swapped ≡ true → r ≡ getD (items (accountOf b s f)) k Nothing → r ≡ cond (sound b f s) (getD (items (account b f s)) k Nothing) Nothing
       item-second g e = rw (is-sound w h, account-second b f s g) e
@@ -235,13 +229,13 @@ module _ {b : Buffer} {f s : List ℕ} {t : Bool} (w : Soundness b f s t) where
 
     module _ {gone : ℕ} (e : gone ≡ goneOf b) where
       pub gone-below : gone ≤ b .len .0
-      gone-below = omega (arith, e, gone-within b f s held-first)
+      gone-below = omega (arith, e, gone-within b f s (held-first w h))
 
       pub twice-fits : b .len .0 - gone + (b .len .0 - gone) < 2 ^ 64
-      twice-fits = let v = held-first in omega arith
+      twice-fits = let v = held-first w h in omega arith
 
       pub both-fit : b .«out_len» .0 + (b .len .0 - gone) < 2 ^ 64
-      both-fit = let v = held-first in omega arith
+      both-fit = let v = held-first w h in omega arith
 
       module _ {p : Bool} (ep : p ≡ positionsPhase (b .phase)) where
         pub count-with-positions : p ≡ true → b .len .0 - gone + (b .len .0 - gone) ≡ cond (sound b f s) (length (items (account b f s))) 0

@@ -2,6 +2,7 @@ pub mod Accounts
 pub mod BackCalls
 pub mod BackLaws
 pub mod Calls
+pub mod Carrying
 pub mod Chains
 pub mod Copying
 pub mod Counted
@@ -22,8 +23,11 @@ pub mod MoveCalls
 pub mod Moving
 pub mod Outputs
 pub mod PhaseCalls
+pub mod Positioning
 pub mod Renaming
 pub mod Runs
 pub mod Simple
+pub mod SizeLaws
+pub mod SoundLaws
 pub mod SyncLaws
 pub mod Turns

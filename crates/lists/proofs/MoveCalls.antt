@@ -9,7 +9,7 @@ use Rattle.lists.specs.State.{sound}
 use Rattle.lists.specs.States.{atPlaces}
 use Rattle.lists.specs.Moving.{SyncOutput, Opened, Backs, MovesForward, MovesBack, MovesTo}
 use Rattle.lists.specs.Verdicts.{Leaves}
-use Rattle.lists.proofs.Accounts.{sound-held}
+use Rattle.lists.proofs.SoundLaws.{sound-held}
 use Rattle.lists.proofs.ForwardLaws as forths
 use Rattle.lists.proofs.BackLaws as backs
 use Rattle.lists.proofs.Decisions.{Lying, near-same, near-places, decided-unsound, decided-accepted, decided-by}

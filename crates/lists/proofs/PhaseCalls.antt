@@ -15,10 +15,12 @@ use Rattle.lists.specs.States.{reply, withLimitsOf, atPlaces, freshBuffe
 use Rattle.lists.specs.Contract.{Meets, MeetsIn}
 use Rattle.lists.specs.Moving.{Carriable, Carried, Zeroed}
 use Rattle.lists.specs.Verdicts.{leaving, Leaves, Sized, bySize, wroteBuffer, failedBuffer, liesElsewhere, freshVerdict, clearVerdict, Freshens, Clears, settledBuffer, settled, settledAs, synced, Sided, Decided}
-use Rattle.lists.proofs.Accounts.{output-of, spoiled-of, sound-held, places-in}
+use Rattle.lists.proofs.Accounts.{output-of, spoiled-of, places-in}
+use Rattle.lists.proofs.SoundLaws.{sound-held}
 use Rattle.lists.proofs.Calls.{shell-unsound, shell-accepted, in-accepted}
 use Rattle.lists.proofs.Simple.{refuse-yes, refuse-no, fresh-account, fresh-held, opened-of, opened-held}
-use Rattle.lists.proofs.Moving.{Placeable, place-moves, forward-moves}
+use Rattle.lists.proofs.Positioning.{Placeable, place-moves}
+use Rattle.lists.proofs.Moving.{forward-moves}
 use Rattle.lists.proofs.Inner.{move-accepted}
 use Rattle.lists.proofs.SyncLaws.{Syncable, sync-in-none, sync-in-spoils, sync-over, sync-gives-up, sync-ready, sync-moves}
 use Rattle.lists.proofs.Decisions.{Lying, Refuses, leaves-is, near-same, settled-is, acts-is, meets-still, meets-refused, decided-still, decided-acts, room-of, end-acted, end-still}

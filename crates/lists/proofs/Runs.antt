@@ -1,36 +1,52 @@
 -- Runs of numbers that pass a test, and the least of a range, as loops go on by one.
-use mathlib.Core.{Path._≡_, Path.refl, Path.ap, Path.ap₂, Path.sym, Path._∙_, Bool.Bool, Bool.true, Bool.false, Bool.cond, List.List, List.[], List._∷_, List._++_, List.reverse, List.reverse-append}
+use mathlib.Core.{Path._≡_, Path.refl, Path.ap, Path.ap₂, Path.sym, Path._∙_, Bool.Bool, Bool.true, Bool.false, Bool.cond, Bool.not, List.List, List.[], List._∷_, List._++_, List.map, List.reverse, List.reverse-append}
 use Prim.Native.Nat.{ℕ, suc, _+_, _-_, _≤_, _<_, min, zero-le, suc-le-suc}
 use native.Mathlib.Numerals.{add-one}
 use native.Mathlib.Omega.{arith}
+use borrow.Author.Tests.{eq-eqb, ne-eqb}
 use lib.ListN.{take, length, getD, length-take, length-reverse, drop-of-length-le}
 use lib.Seq.{slice, slice-empty, slice-cons, take-suc, drop-append-le, length-take-le}
-use Rattle.records.specs.Ranges.{least, heads, tails}
+use Rattle.records.specs.Glyphs.{Glyph, key}
+use Rattle.records.specs.Ranges.{least, heads, tails, clusters, infos, isnt}
+use Rattle.records.specs.View.{zeroGlyph}
+use Rattle.records.proofs.View.{length-clusters}
+use Rattle.lists.proofs.Infos.{length-words, word-of}
 
--- ---- a loop that goes down, for the least of a range
-pub record Lowest (cs : List ℕ) (s e m i : ℕ) : Type 0 where
+-- ---- a loop that goes down, for the least cluster of a range
+pub record Lowest (l : List (Glyph ℕ)) (s e m i : ℕ) : Type 0 where
   pub low : s ≤ i
   pub high : i ≤ e
-  pub is : m ≡ least (slice i e cs)
+  pub fits : e ≤ length l
+  pub is : m ≡ least (slice i e (clusters l))
 
-pub lowest-none : {cs : List ℕ} {s e : ℕ} → s ≤ e → Lowest cs s e 4294967295 e
-unfolding least
-lowest-none {cs} {s} {e} o = record { low = o; high = omega arith; is = rw (slice-empty e cs) }
+module _ {l : List (Glyph ℕ)} {s e : ℕ} where
+  pub lowest-none : s ≤ e → e ≤ length l → Lowest l s e 4294967295 e
+  unfolding least
+  lowest-none o b = record { low = o; high = omega arith; fits = b; is = rw (slice-empty e (clusters l)) }
 
-pub lowest-more : {cs : List ℕ} {s e m i : ℕ} → Lowest cs s e m i → s < i → e ≤ length cs → (c m′ : ℕ) → c ≡ getD cs (i - 1) 4294967295 → m′ ≡ min c m → Lowest cs s e m′ (i - 1)
-unfolding least
-lowest-more {cs} {s} {e} {m} {i} v o b c m′ ec em =
-    let k : suc (i - 1) ≡ i = omega arith in
-    let high : i ≤ e = v .high in
-    let first : slice (i - 1) e cs ≡ getD cs (i - 1) 4294967295 ∷ slice (suc (i - 1)) e cs = slice-cons (i - 1) e cs 4294967295 (omega arith) b in
-    let rest : least (slice (i - 1) e cs) ≡ min (getD cs (i - 1) 4294967295) (least (slice i e cs)) =
-    ap least first ∙ ap (λ (n : ℕ). min (getD cs (i - 1) 4294967295) (least (slice n e cs))) k in
-    record { low = omega arith; high = omega arith; is = em ∙ (ap₂ min ec (v .is) ∙ sym rest) }
+  module _ {m i c : ℕ} (v : Lowest l s e m i) (o : s < i) (ec : c ≡ getD (clusters l) (i - 1) 4294967295) where
+    lowest-more : {m′ : ℕ} → m′ ≡ min c m → Lowest l s e m′ (i - 1)
+    unfolding least
+    lowest-more em =
+        let cs : List ℕ = clusters l in
+        let k : suc (i - 1) ≡ i = omega arith in
+        let high : i ≤ e = v .high in
+        let b : e ≤ length cs = rw (length-clusters l) (v .fits) in
+        let first : slice (i - 1) e cs ≡ getD cs (i - 1) 4294967295 ∷ slice (suc (i - 1)) e cs = slice-cons (i - 1) e cs 4294967295 (omega arith) b in
+        let rest : least (slice (i - 1) e cs) ≡ min (getD cs (i - 1) 4294967295) (least (slice i e cs)) =
+        ap least first ∙ ap (λ (n : ℕ). min (getD cs (i - 1) 4294967295) (least (slice n e cs))) k in
+        record { low = omega arith; high = omega arith; fits = v .fits; is = em ∙ (ap₂ min ec (v .is) ∙ sym rest) }
 
-pub lowest-done : {cs : List ℕ} {s e m i : ℕ} → Lowest cs s e m i → i ≤ s → m ≡ least (slice s e cs)
-lowest-done {cs} {s} {e} {m} {i} v o =
-    let k : i ≡ s = omega arith in
-    rw k at (v .is)
+    pub lowest-less : c < m → Lowest l s e c (i - 1)
+    lowest-less h = lowest-more (omega arith)
+
+    pub lowest-stays : m ≤ c → Lowest l s e m (i - 1)
+    lowest-stays h = lowest-more (omega arith)
+
+  pub lowest-done : {m i : ℕ} → Lowest l s e m i → i ≤ s → m ≡ least (slice s e (clusters l))
+  lowest-done {m} {i} v o =
+      let k : i ≡ s = omega arith in
+      rw k at (v .is)
 
 module _ (p : ℕ → Bool) where
   pub heads-le : (l : List ℕ) → heads p l ≤ length l
@@ -95,6 +111,32 @@ module _ {p : ℕ → Bool} {cs : List ℕ} {e t : ℕ} where
       let k : i ≡ t = omega arith in
       let w : heads p (slice i t cs) ≡ 0 = rw (k, slice-empty t cs) in
       omega (arith, v .is)
+
+-- the same over keys that are not 0, behind place s
+pub record Keyed (slot mask : ℕ) (l : List (Glyph ℕ)) (s e i : ℕ) : Type 0 where
+  pub fits : e ≤ length l
+  pub ahead : Ahead (isnt 0) (map (key slot mask) (infos l)) (s + 1) e i
+
+module _ {slot mask : ℕ} {l : List (Glyph ℕ)} {s e : ℕ} where
+  pub keyed-none : s < e → e ≤ length l → Keyed slot mask l s e (s + 1)
+  keyed-none o b = record { fits = b; ahead = ahead-none (omega arith) }
+
+  module _ {i : ℕ} (v : Keyed slot mask l s e i) where
+    within : e ≤ length (map (key slot mask) (infos l))
+    within = rw (length-words (key slot mask) l) (v .fits)
+
+    module _ (o : i < e) {k : ℕ} (ek : k ≡ key slot mask (getD l i zeroGlyph .info)) where
+      key-is : k ≡ getD (map (key slot mask) (infos l)) i 4294967295
+      key-is = ek ∙ word-of (key slot mask) l i 4294967295 (omega (arith, v .fits))
+
+      pub keyed-more : (k ≡ 0 → ⊥) → Keyed slot mask l s e (i + 1)
+      keyed-more n = record { fits = v .fits; ahead = ahead-more (v .ahead) o within k key-is (ap not (ne-eqb k 0 n)) }
+
+      pub keyed-stop : k ≡ 0 → i ≡ s + 1 + heads (isnt 0) (slice (s + 1) e (map (key slot mask) (infos l)))
+      keyed-stop z = ahead-stop (v .ahead) o within k key-is (ap not (eq-eqb k 0 z))
+
+    pub keyed-done : e ≤ i → i ≡ s + 1 + heads (isnt 0) (slice (s + 1) e (map (key slot mask) (infos l)))
+    keyed-done o = ahead-done (v .ahead) o
 
 -- a loop that goes down over what passes
 pub record Behind (p : ℕ → Bool) (cs : List ℕ) (f s i : ℕ) : Type 0 where

@@ -11,10 +11,11 @@ use Rattle.lists.specs.declared.{Buffer.Buffer, Reply.Reply}
 use Rattle.lists.specs.Account.{Account, inPhase, withGone, outputPhase, spoiledPhase, hasOutput, input, len, idx, freshAccount, readLevel}
 use Rattle.lists.specs.Results.{Result, Outcome, refused, accepted, outcome, refuse_when_else_}
 use Rattle.lists.specs.Cursor.{fresh, dropping, cursorAt, withoutPositions, opened}
-use Rattle.lists.specs.State.{shown, goneOf, stateOf, accountOf, account, inOrder, sound, Held}
+use Rattle.lists.specs.State.{shown, goneOf, stateOf, accountOf, account, inOrder, sound, Soundness, Held}
 use Rattle.lists.specs.States.{atPlaces, freshBuffer, openedBuffer, swappedBuffer, reply}
 use Rattle.lists.specs.Contract.{Begins}
-use Rattle.lists.proofs.Accounts.{output-of, held-turned, sound-held}
+use Rattle.lists.proofs.Accounts.{output-of}
+use Rattle.lists.proofs.SoundLaws.{held-turned, is-sound, is-unsound, held-first, held-second}
 use Rattle.lists.proofs.Outputs.{gone-output, gone-without}
 
 -- ---- a line of a call's tests
@@ -210,18 +211,20 @@ module _ (b : Buffer) (f s : List ℕ) where
       by-side true = refl
       by-side false = refl
 
-  pub out-unsound : {l : List (Glyph ℕ)} → sound b f s ≡ false → l ≡ [] → l ≡ cond (sound b f s) (account b f s .done) []
-  out-unsound h e = rw h e
+-- as the code tests
+module _ {b : Buffer} {f s : List ℕ} {t : Bool} (w : Soundness b f s t) where
+  pub out-unsound : {l : List (Glyph ℕ)} → t ≡ false → l ≡ [] → l ≡ cond (sound b f s) (account b f s .done) []
+  out-unsound h e = rw (is-unsound w h) e
 
-  module _ (h : sound b f s ≡ true) where
+  module _ (h : t ≡ true) where
     pub out-first-room : b .«out_len» .0 ≤ length (glyphs f)
-    out-first-room = let v = sound-held b f s h in omega arith
+    out-first-room = let v = held-first w h in omega arith
 
     pub out-second-room : b .«out_len» .0 ≤ length (glyphs s)
-    out-second-room = let v = held-turned b f s (sound-held b f s h) in omega arith
+    out-second-room = let v = held-second w h in omega arith
 
     pub out-second : {l : List (Glyph ℕ)} → not (Bool·beq (b .swapped) (b .«have_separate_output»)) ≡ true → l ≡ take (b .«out_len» .0) (glyphs s) → l ≡ cond (sound b f s) (account b f s .done) []
-    out-second k e = rw h (e ∙ (ap (take (b .«out_len» .0)) (flags-second (b .swapped) (b .«have_separate_output») (glyphs f) (glyphs s) k) ∙ sym done-is))
+    out-second k e = rw (is-sound w h) (e ∙ (ap (take (b .«out_len» .0)) (flags-second (b .swapped) (b .«have_separate_output») (glyphs f) (glyphs s) k) ∙ sym (done-is b f s)))
 
     pub out-first : {l : List (Glyph ℕ)} → not (Bool·beq (b .swapped) (b .«have_separate_output»)) ≡ false → l ≡ take (b .«out_len» .0) (glyphs f) → l ≡ cond (sound b f s) (account b f s .done) []
-    out-first k e = rw h (e ∙ (ap (take (b .«out_len» .0)) (flags-first (b .swapped) (b .«have_separate_output») (glyphs f) (glyphs s) k) ∙ sym done-is))
+    out-first k e = rw (is-sound w h) (e ∙ (ap (take (b .«out_len» .0)) (flags-first (b .swapped) (b .«have_separate_output») (glyphs f) (glyphs s) k) ∙ sym (done-is b f s)))

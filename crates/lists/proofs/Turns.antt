@@ -133,8 +133,8 @@ module _ {A : Type 0} where
   pub turning-none : {l : List A} {s e : ℕ} → s ≤ e → e ≤ length l → Turning l s e l s e
   turning-none o b = record { order = o; fits = b; is = refl }
 
-  pub turning-more : {l₀ l l′ : List A} {s e i j : ℕ} (d : A) → Turning l₀ s e l i j → i + 1 < j → l′ ≡ exchange d i (j - 1) l → Turning l₀ s e l′ (i + 1) (j - 1)
-  turning-more {l₀} {l} {l′} {s} {e} {i} {j} d v o es =
+  pub turning-more : (d : A) {l₀ l l′ : List A} {s e i j : ℕ} → Turning l₀ s e l i j → i + 1 < j → l′ ≡ exchange d i (j - 1) l → Turning l₀ s e l′ (i + 1) (j - 1)
+  turning-more d {l₀} {l} {l′} {s} {e} {i} {j} v o es =
       let fits : j ≤ length l = v .fits in
       let same : length l′ ≡ length l = rw es (length-set (set l i (getD l (j - 1) d)) (j - 1) (getD l i d) ∙ length-set l i (getD l (j - 1) d)) in
       let k : suc (j - 1) ≡ j = omega arith in

@@ -2,6 +2,7 @@ pub mod ByteLaws
 pub mod Counting
 pub mod Examples
 pub mod Executable
+pub mod Fives
 pub mod Pairs
 pub mod Renaming
 pub mod Tests

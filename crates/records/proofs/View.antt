@@ -1,18 +1,15 @@
 -- Laws of the view: what is said of words, and what the crates above may use of it.
 use mathlib.Core.{Path._≡_, Path.refl, Path.sym, Path.ap, Path._∙_, Bool.Bool, Bool.true, Bool._&&_, Bool.and-eq-true-iff, List.List, List.[], List._∷_, List._++_, List.map}
 use Prim.Native.Nat.{ℕ, zero, suc, _+_, _-_, _*_, _/_, _%_, _≤_, _<_}
-use native.Mathlib.Nat.{suc-add}
 use native.Mathlib.Omega.{arith}
-use lib.{ListN.length, ListN.getD, ListN.set, ListN.drop, ListN.take, ListN.replicate, ListN.length-map, ListN.length-drop, ListN.List·getD-map, Seq.set-getD, Seq.drop-nil, Seq.drop-drop, Seq.take-nil, Seq.length-take-le, Dec.eqb, Dec.leb, Bits.bitAnd, Bits.bitOr}
+use lib.{ListN.length, ListN.getD, ListN.set, ListN.drop, ListN.take, ListN.replicate, ListN.length-map, ListN.List·getD-map, Seq.set-getD, Seq.drop-drop, Seq.length-take-le, Dec.eqb, Dec.leb, Bits.bitAnd, Bits.bitOr}
 use borrow.Author.Tests.{eq-eqb, ne-eqb, eqb-true, leb-true}
 use Rattle.records.specs.declared.{Position.Position, Glyph.Glyph as Words}
 use Rattle.records.specs.Counters.{capacityOf, rightlyLent}
 use Rattle.records.specs.Glyphs.{Glyph, change, setCluster, withMask, withCluster, withPosition, flagged, flaggedUnless, key, zeroPosition}
 use Rattle.records.specs.Ranges.{clusters}
-use Rattle.records.specs.View.{fives, glyphOf, glyphs, positionOf, placements, paired, wordsFrom, Whole, seen, stored, zeroGlyph, wordsAt, placeAt, putFive, putWords, putPlace}
-
-five-suc : (i : ℕ) → 5 * suc i ≡ suc (suc (suc (suc (suc (5 * i)))))
-five-suc i = omega arith
+use Rattle.records.specs.View.{fives, glyphOf, glyphs, positionOf, placements, paired, wordsFrom, Whole, seen, stored, zeroGlyph, wordsAt, placeAt, putWords, putPlace}
+use Rattle.records.proofs.Fives.{length-fives, fives-room, getD-fives, put-fives, put-second, put-two, take-fives, beyond-fives}
 
 -- ---- the words of the struct, as a glyph
 module _ (g : Words) where
@@ -52,103 +49,6 @@ module _ (g : Words) where
 pub seen-stored : (g : Glyph ℕ) → seen (stored g) ≡ change (withPosition zeroPosition) g
 unfolding stored seen glyphOf change withPosition
 seen-stored g = refl
-
--- ---- five words at a time, whatever they make
-module _ {A : Type 0} (mk : ℕ → ℕ → ℕ → ℕ → ℕ → A) where
-  length-fives : (ws : List ℕ) → length (fives mk ws) ≡ length ws / 5
-  unfolding fives
-  length-fives [] = refl
-  length-fives (a ∷ []) = refl
-  length-fives (a ∷ (b ∷ [])) = refl
-  length-fives (a ∷ (b ∷ (c ∷ []))) = refl
-  length-fives (a ∷ (b ∷ (c ∷ (d ∷ [])))) = refl
-  length-fives (a ∷ (b ∷ (c ∷ (d ∷ (e ∷ ws))))) = omega (arith, length-fives ws)
-
-  -- a whole one of room behind each place
-  room : (ws : List ℕ) (i : ℕ) → i < length (fives mk ws) → 5 * i + 4 < length ws
-  room ws i h = omega (arith, length-fives ws)
-
-  getD-fives : (ws : List ℕ) (i : ℕ) (z : A) → i < length (fives mk ws) → getD (fives mk ws) i z ≡ mk (getD ws (5 * i) 0) (getD ws (5 * i + 1) 0) (getD ws (5 * i + 2) 0) (getD ws (5 * i + 3) 0) (getD ws (5 * i + 4) 0)
-  unfolding fives
-  getD-fives [] i z h = absurd (omega arith)
-  getD-fives (a ∷ []) i z h = absurd (omega arith)
-  getD-fives (a ∷ (b ∷ [])) i z h = absurd (omega arith)
-  getD-fives (a ∷ (b ∷ (c ∷ []))) i z h = absurd (omega arith)
-  getD-fives (a ∷ (b ∷ (c ∷ (d ∷ [])))) i z h = absurd (omega arith)
-  getD-fives (a ∷ (b ∷ (c ∷ (d ∷ (e ∷ ws))))) zero z h = refl
-  getD-fives (a ∷ (b ∷ (c ∷ (d ∷ (e ∷ ws))))) (suc i) z h = getD-fives ws i z (omega arith) ∙ simp (five-suc, suc-add)
-
-  put-fives : (ws : List ℕ) (i v w x y z : ℕ) → i < length (fives mk ws) → fives mk (putFive ws (5 * i) v w x y z) ≡ set (fives mk ws) i (mk v w x y z)
-  unfolding fives
-  put-fives [] i v w x y z h = absurd (omega arith)
-  put-fives (a ∷ []) i v w x y z h = absurd (omega arith)
-  put-fives (a ∷ (b ∷ [])) i v w x y z h = absurd (omega arith)
-  put-fives (a ∷ (b ∷ (c ∷ []))) i v w x y z h = absurd (omega arith)
-  put-fives (a ∷ (b ∷ (c ∷ (d ∷ [])))) i v w x y z h = absurd (omega arith)
-  put-fives (a ∷ (b ∷ (c ∷ (d ∷ (e ∷ ws))))) zero v w x y z h = refl
-  put-fives (a ∷ (b ∷ (c ∷ (d ∷ (e ∷ ws))))) (suc i) v w x y z h = simp (five-suc, suc-add) (ap {B = List A} (λ l. mk a b c d e ∷ l) (put-fives ws i v w x y z (omega arith)))
-
-  -- the second word alone, and the second and the third
-  put-second : (ws : List ℕ) (i v : ℕ) → i < length (fives mk ws) → fives mk (set ws (5 * i + 1) v) ≡ set (fives mk ws) i (mk (getD ws (5 * i) 0) v (getD ws (5 * i + 2) 0) (getD ws (5 * i + 3) 0) (getD ws (5 * i + 4) 0))
-  unfolding fives
-  put-second [] i v h = absurd (omega arith)
-  put-second (a ∷ []) i v h = absurd (omega arith)
-  put-second (a ∷ (b ∷ [])) i v h = absurd (omega arith)
-  put-second (a ∷ (b ∷ (c ∷ []))) i v h = absurd (omega arith)
-  put-second (a ∷ (b ∷ (c ∷ (d ∷ [])))) i v h = absurd (omega arith)
-  put-second (a ∷ (b ∷ (c ∷ (d ∷ (e ∷ ws))))) zero v h = refl
-  put-second (a ∷ (b ∷ (c ∷ (d ∷ (e ∷ ws))))) (suc i) v h = simp (five-suc, suc-add) (ap {B = List A} (λ l. mk a b c d e ∷ l) (put-second ws i v (omega arith)))
-
-  put-two : (ws : List ℕ) (i v w : ℕ) → i < length (fives mk ws) → fives mk (set (set ws (5 * i + 1) v) (5 * i + 2) w) ≡ set (fives mk ws) i (mk (getD ws (5 * i) 0) v w (getD ws (5 * i + 3) 0) (getD ws (5 * i + 4) 0))
-  unfolding fives
-  put-two [] i v w h = absurd (omega arith)
-  put-two (a ∷ []) i v w h = absurd (omega arith)
-  put-two (a ∷ (b ∷ [])) i v w h = absurd (omega arith)
-  put-two (a ∷ (b ∷ (c ∷ []))) i v w h = absurd (omega arith)
-  put-two (a ∷ (b ∷ (c ∷ (d ∷ [])))) i v w h = absurd (omega arith)
-  put-two (a ∷ (b ∷ (c ∷ (d ∷ (e ∷ ws))))) zero v w h = refl
-  put-two (a ∷ (b ∷ (c ∷ (d ∷ (e ∷ ws))))) (suc i) v w h = simp (five-suc, suc-add) (ap {B = List A} (λ l. mk a b c d e ∷ l) (put-two ws i v w (omega arith)))
-
-  take-fives : (n : ℕ) (ws : List ℕ) → fives mk (take (5 * n) ws) ≡ take n (fives mk ws)
-  unfolding fives
-  take-fives zero ws = refl
-  take-fives (suc n) [] = simp five-suc
-  take-fives (suc n) (a ∷ []) = simp (five-suc, take-nil)
-  take-fives (suc n) (a ∷ (b ∷ [])) = simp (five-suc, take-nil)
-  take-fives (suc n) (a ∷ (b ∷ (c ∷ []))) = simp (five-suc, take-nil)
-  take-fives (suc n) (a ∷ (b ∷ (c ∷ (d ∷ [])))) = simp (five-suc, take-nil)
-  take-fives (suc n) (a ∷ (b ∷ (c ∷ (d ∷ (e ∷ ws))))) = simp five-suc (ap {B = List A} (λ l. mk a b c d e ∷ l) (take-fives n ws))
-
-  drop-fives : (n : ℕ) (ws : List ℕ) → fives mk (drop (5 * n) ws) ≡ drop n (fives mk ws)
-  unfolding fives
-  drop-fives zero ws = refl
-  drop-fives (suc n) [] = simp five-suc
-  drop-fives (suc n) (a ∷ []) = simp (five-suc, drop-nil)
-  drop-fives (suc n) (a ∷ (b ∷ [])) = simp (five-suc, drop-nil)
-  drop-fives (suc n) (a ∷ (b ∷ (c ∷ []))) = simp (five-suc, drop-nil)
-  drop-fives (suc n) (a ∷ (b ∷ (c ∷ (d ∷ [])))) = simp (five-suc, drop-nil)
-  drop-fives (suc n) (a ∷ (b ∷ (c ∷ (d ∷ (e ∷ ws))))) = simp five-suc (drop-fives n ws)
-
-  -- where the five words can be had back, whole ones decide the words
-  module _ (un : A → List ℕ) (back : (a b c d e : ℕ) → un (mk a b c d e) ≡ a ∷ (b ∷ (c ∷ (d ∷ (e ∷ []))))) where
-    flat : List A → List ℕ
-    flat [] = []
-    flat (x ∷ l) = un x ++ flat l
-
-    flat-fives : (ws : List ℕ) → length ws % 5 ≡ 0 → flat (fives mk ws) ≡ ws
-    unfolding fives flat
-    flat-fives [] h = refl
-    flat-fives (a ∷ []) h = absurd (omega arith)
-    flat-fives (a ∷ (b ∷ [])) h = absurd (omega arith)
-    flat-fives (a ∷ (b ∷ (c ∷ []))) h = absurd (omega arith)
-    flat-fives (a ∷ (b ∷ (c ∷ (d ∷ [])))) h = absurd (omega arith)
-    flat-fives (a ∷ (b ∷ (c ∷ (d ∷ (e ∷ ws))))) h = rw (back a b c d e) (ap {B = List ℕ} (λ l. a ∷ (b ∷ (c ∷ (d ∷ (e ∷ l))))) (flat-fives ws (omega arith)))
-
-    beyond-fives : (n : ℕ) (v w : List ℕ) → length v % 5 ≡ 0 → length v ≡ length w → drop n (fives mk v) ≡ drop n (fives mk w) → drop (5 * n) v ≡ drop (5 * n) w
-    beyond-fives n v w h l e =
-        let hv : length (drop (5 * n) v) % 5 ≡ 0 = simp length-drop (omega arith) in
-        let hw : length (drop (5 * n) w) % 5 ≡ 0 = simp length-drop (omega arith) in
-        sym (flat-fives (drop (5 * n) v) hv) ∙ (ap flat (drop-fives n v ∙ (e ∙ sym (drop-fives n w))) ∙ flat-fives (drop (5 * n) w) hw)
 
 -- ---- what the crates above know of the view, whatever the layout
 -- the words from the n-th glyph on go by the glyphs, and by the positions
@@ -277,15 +177,18 @@ cluster-of l i = List·getD-map (λ g. g .info .cluster) l i zeroGlyph
 module _ (ws : List ℕ) (i : ℕ) (h : i < length (glyphs ws)) where
   pub glyph-room : 5 * i + 4 < length ws
   unfolding glyphs
-  glyph-room = room glyphOf ws i h
+  glyph-room = fives-room glyphOf ws i h
 
   pub getD-glyphs : getD (glyphs ws) i zeroGlyph ≡ seen (wordsAt ws (5 * i))
   unfolding glyphs seen
   getD-glyphs = getD-fives glyphOf ws i zeroGlyph h
 
-  pub put-glyphs : (g : Words) → glyphs (putWords ws (5 * i) g) ≡ set (glyphs ws) i (seen g)
+  pub get-glyphs : {g : Words} → g ≡ wordsAt ws (5 * i) → seen g ≡ getD (glyphs ws) i zeroGlyph
+  get-glyphs e = ap seen e ∙ sym getD-glyphs
+
+  pub put-glyphs : {ws′ : List ℕ} (g : Words) → ws′ ≡ putWords ws (5 * i) g → glyphs ws′ ≡ set (glyphs ws) i (seen g)
   unfolding glyphs seen
-  put-glyphs g = put-fives glyphOf ws i (g .glyph) (g .mask) (g .cluster) (g .var0) (g .var1) h
+  put-glyphs g e = rw e (put-fives glyphOf ws i (g .glyph) (g .mask) (g .cluster) (g .var0) (g .var1) h)
 
   pub cluster-word : getD ws (5 * i + 2) 0 ≡ getD (clusters (glyphs ws)) i 4294967295
   unfolding seen glyphOf
@@ -335,20 +238,20 @@ module _ (l : List (Glyph ℕ)) (i c bits : ℕ) where
   unfolding change flaggedUnless
   unless-same e = rw (eq-eqb (getD l i zeroGlyph .info .cluster) c (sym (cluster-of l i) ∙ e)) (sym (set-getD l i zeroGlyph))
 
-  pub unless-other : (getD (clusters l) i 4294967295 ≡ c → ⊥) → set l i (change (flagged bits) (getD l i zeroGlyph)) ≡ set l i (change (flaggedUnless c bits) (getD l i zeroGlyph))
+  pub unless-other : {x : ℕ} {l′ : List (Glyph ℕ)} → x ≡ getD (clusters l) i 4294967295 → (x ≡ c → ⊥) → l′ ≡ set l i (change (flagged bits) (getD l i zeroGlyph)) → l′ ≡ set l i (change (flaggedUnless c bits) (getD l i zeroGlyph))
   unfolding change flaggedUnless
-  unless-other n = rw (ne-eqb (getD l i zeroGlyph .info .cluster) c (λ (q : getD l i zeroGlyph .info .cluster ≡ c). n (cluster-of l i ∙ q)))
+  unless-other ex n e = e ∙ rw (ne-eqb (getD l i zeroGlyph .info .cluster) c (λ (q : getD l i zeroGlyph .info .cluster ≡ c). n (ex ∙ (cluster-of l i ∙ q))))
 
 -- ---- positions
 module _ (ws : List ℕ) (i : ℕ) (h : i < length (placements ws)) where
   pub place-room : 5 * i + 4 < length ws
   unfolding placements
-  place-room = room positionOf ws i h
+  place-room = fives-room positionOf ws i h
 
   pub getD-placements : getD (placements ws) i zeroPosition ≡ placeAt ws (5 * i)
   unfolding placements positionOf
   getD-placements = getD-fives positionOf ws i zeroPosition h
 
-  pub put-placements : (p : Position) → placements (putPlace ws (5 * i) p) ≡ set (placements ws) i p
+  pub put-placements : {ws′ : List ℕ} (p : Position) → ws′ ≡ putPlace ws (5 * i) p → placements ws′ ≡ set (placements ws) i p
   unfolding placements positionOf
-  put-placements p = put-fives positionOf ws i (p .«x_advance») (p .«y_advance») (p .«x_offset») (p .«y_offset») (p .var) h
+  put-placements p e = rw e (put-fives positionOf ws i (p .«x_advance») (p .«y_advance») (p .«x_offset») (p .«y_offset») (p .var) h)

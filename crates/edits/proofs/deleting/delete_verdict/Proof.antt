@@ -1,5 +1,5 @@
 use Rattle.records.proofs.Tests.{tested}
-use Rattle.lists.proofs.Decisions.{is-sound, is-unsound}
+use Rattle.lists.proofs.SoundLaws.{is-sound, is-unsound}
 use Rattle.edits.proofs.DeleteCalls.{delete-unsound, delete-phase, delete-ended, delete-goes}
 use borrow.Author.Needs.{needs}
 use Rattle.edits.proofs.deleting.delete_verdict.Statement.{statement}

@@ -1,4 +1,4 @@
-use Rattle.lists.proofs.Decisions.{is-sound, is-unsound}
+use Rattle.lists.proofs.SoundLaws.{is-sound, is-unsound}
 use Rattle.edits.proofs.SetLengths.{length-unsound, length-not-whole, length-ahead}
 use borrow.Author.Needs.{needs}
 use Rattle.edits.proofs.filling.length_verdict.Statement.{statement}

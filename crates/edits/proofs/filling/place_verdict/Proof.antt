@@ -1,5 +1,5 @@
 use Rattle.records.proofs.Tests.{tested}
-use Rattle.lists.proofs.Decisions.{is-sound, is-unsound}
+use Rattle.lists.proofs.SoundLaws.{is-sound, is-unsound}
 use Rattle.edits.proofs.Placings.{place-unsound, place-unplaced, place-behind, place-ahead}
 use borrow.Author.Needs.{needs}
 use Rattle.edits.proofs.filling.place_verdict.Statement.{statement}

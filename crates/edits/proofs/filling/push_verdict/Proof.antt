@@ -1,5 +1,5 @@
 use Rattle.records.proofs.Tests.{tested}
-use Rattle.lists.proofs.Decisions.{is-sound, is-unsound}
+use Rattle.lists.proofs.SoundLaws.{is-sound, is-unsound}
 use Rattle.edits.proofs.Lengths.{push-unsound, push-not-whole, push-positions, push-ahead, push-size}
 use borrow.Author.Needs.{needs}
 use Rattle.edits.proofs.filling.push_verdict.Statement.{statement}

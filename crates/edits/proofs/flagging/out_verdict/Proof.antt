@@ -1,5 +1,5 @@
 use Rattle.records.proofs.Tests.{tested}
-use Rattle.lists.proofs.Decisions.{is-sound, is-unsound}
+use Rattle.lists.proofs.SoundLaws.{is-sound, is-unsound}
 use Rattle.edits.proofs.OutFlagCalls.{out-unsound, out-none, out-idle, out-outside, out-ahead}
 use borrow.Author.Needs.{needs}
 use Rattle.edits.proofs.flagging.out_verdict.Statement.{statement}

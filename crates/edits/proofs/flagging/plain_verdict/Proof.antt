@@ -1,5 +1,5 @@
 use Rattle.records.proofs.Tests.{tested}
-use Rattle.lists.proofs.Decisions.{is-sound, is-unsound}
+use Rattle.lists.proofs.SoundLaws.{is-sound, is-unsound}
 use Rattle.edits.proofs.FlagCalls.{plain-unsound, plain-spoiled, plain-idle, plain-outside, plain-ahead}
 use borrow.Author.Needs.{needs}
 use Rattle.edits.proofs.flagging.plain_verdict.Statement.{statement}

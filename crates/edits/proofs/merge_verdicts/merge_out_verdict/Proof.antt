@@ -1,5 +1,5 @@
 use Rattle.records.proofs.Tests.{tested}
-use Rattle.lists.proofs.Decisions.{is-sound, is-unsound}
+use Rattle.lists.proofs.SoundLaws.{is-sound, is-unsound}
 use Rattle.edits.proofs.OutCalls.{done-unsound, done-phase, done-order, done-end, done-goes}
 use borrow.Author.Needs.{needs}
 use Rattle.edits.proofs.merge_verdicts.merge_out_verdict.Statement.{statement}

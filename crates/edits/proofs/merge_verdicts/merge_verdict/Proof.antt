@@ -1,5 +1,5 @@
 use Rattle.records.proofs.Tests.{tested}
-use Rattle.lists.proofs.Decisions.{is-sound, is-unsound}
+use Rattle.lists.proofs.SoundLaws.{is-sound, is-unsound}
 use Rattle.edits.proofs.MergeDecisions.{merge-unsound, merge-spoiled, merge-outside, merge-goes, outside-ordered}
 use borrow.Author.Needs.{needs}
 use Rattle.edits.proofs.merge_verdicts.merge_verdict.Statement.{statement}

@@ -1,4 +1,4 @@
-use Rattle.lists.proofs.Decisions.{is-sound, is-unsound}
+use Rattle.lists.proofs.SoundLaws.{is-sound, is-unsound}
 use Rattle.edits.proofs.Relabelings.{masks-unsound, masks-not-whole, masks-none, masks-ahead}
 use borrow.Author.Needs.{needs}
 use Rattle.edits.proofs.relabeling.masks_verdict.Statement.{statement}

@@ -1,5 +1,5 @@
 use Rattle.records.proofs.Tests.{tested}
-use Rattle.lists.proofs.Decisions.{is-sound, is-unsound}
+use Rattle.lists.proofs.SoundLaws.{is-sound, is-unsound}
 use Rattle.edits.proofs.ReplaceCalls.{one-spoils, one-past, one-decided}
 use Rattle.edits.proofs.WriteCalls.{idx-next, out-next, output-unsound}
 use borrow.Author.Needs.{needs}

@@ -1,5 +1,5 @@
 use Rattle.records.proofs.Tests.{tested}
-use Rattle.lists.proofs.Decisions.{is-sound, is-unsound}
+use Rattle.lists.proofs.SoundLaws.{is-sound, is-unsound}
 use Rattle.lists.proofs.CursorCalls.{sound-idx, idx-small}
 use Rattle.edits.proofs.ReplaceCalls.{replace-unsound, replace-spoils, replace-empty, replace-few, replace-lacks, replace-decided, given-small}
 use borrow.Author.Needs.{needs}

@@ -1,4 +1,4 @@
-use Rattle.lists.proofs.Decisions.{is-sound, is-unsound}
+use Rattle.lists.proofs.SoundLaws.{is-sound, is-unsound}
 use Rattle.edits.proofs.ReverseCalls.{range-unsound, range-not-whole, range-over, range-ahead}
 use borrow.Author.Needs.{needs}
 use Rattle.edits.proofs.reversing.range_verdict.Statement.{statement}

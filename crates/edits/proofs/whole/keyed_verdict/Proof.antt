@@ -1,4 +1,4 @@
-use Rattle.lists.proofs.Decisions.{is-sound, is-unsound}
+use Rattle.lists.proofs.SoundLaws.{is-sound, is-unsound}
 use Rattle.edits.proofs.Charging.{keyed-unsound, keyed-not, keyed-bad, keyed-ahead}
 use borrow.Author.Needs.{needs}
 use Rattle.edits.proofs.whole.keyed_verdict.Statement.{statement}

@@ -1,4 +1,4 @@
-use Rattle.lists.proofs.Decisions.{is-sound, is-unsound}
+use Rattle.lists.proofs.SoundLaws.{is-sound, is-unsound}
 use Rattle.edits.proofs.WholeCalls.{takes-unsound, takes-not, takes-ahead}
 use borrow.Author.Needs.{needs}
 use Rattle.edits.proofs.whole.whole_verdict.Statement.{statement}

@@ -1,5 +1,5 @@
 use Rattle.records.proofs.Tests.{tested}
-use Rattle.lists.proofs.Decisions.{is-sound, is-unsound}
+use Rattle.lists.proofs.SoundLaws.{is-sound, is-unsound}
 use Rattle.edits.proofs.WriteCalls.{idx-still, out-next, output-unsound, copy-spoils, copy-past, copy-decided}
 use borrow.Author.Needs.{needs}
 use Rattle.edits.proofs.writing.copy_verdict.Statement.{statement}

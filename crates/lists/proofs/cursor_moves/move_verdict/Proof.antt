@@ -1,5 +1,5 @@
 use Rattle.records.proofs.Tests.{tested}
-use Rattle.lists.proofs.Decisions.{is-sound, is-unsound}
+use Rattle.lists.proofs.SoundLaws.{is-sound, is-unsound}
 use Rattle.lists.proofs.MoveCalls.{move-unsound, move-spoiled, move-outside, move-places, opens}
 use borrow.Author.Needs.{needs}
 use Rattle.lists.proofs.cursor_moves.move_verdict.Statement.{statement}

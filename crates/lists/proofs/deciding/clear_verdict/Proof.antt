@@ -1,5 +1,5 @@
 use Rattle.records.proofs.Tests.{tested}
-use Rattle.lists.proofs.Decisions.{is-sound, is-unsound}
+use Rattle.lists.proofs.SoundLaws.{is-sound, is-unsound}
 use Rattle.lists.proofs.PhaseCalls.{clear-unsound, clear-output, clear-spoiled, clear-ahead}
 use borrow.Author.Needs.{needs}
 use Rattle.lists.proofs.deciding.clear_verdict.Statement.{statement}

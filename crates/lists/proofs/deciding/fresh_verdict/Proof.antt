@@ -1,4 +1,4 @@
-use Rattle.lists.proofs.Decisions.{is-sound, is-unsound}
+use Rattle.lists.proofs.SoundLaws.{is-sound, is-unsound}
 use Rattle.lists.proofs.PhaseCalls.{fresh-unsound, fresh-bad, fresh-ahead}
 use borrow.Author.Needs.{needs}
 use Rattle.lists.proofs.deciding.fresh_verdict.Statement.{statement}

@@ -1,5 +1,6 @@
 use Rattle.records.proofs.Tests.{tested}
-use Rattle.lists.proofs.Decisions.{is-sound, is-unsound, settles-unsound, settles-refused, settles-accepted}
+use Rattle.lists.proofs.SoundLaws.{is-sound, is-unsound}
+use Rattle.lists.proofs.Decisions.{settles-unsound, settles-refused, settles-accepted}
 use Rattle.lists.proofs.CursorCalls.{leave-spoiled, leave-accepts}
 use borrow.Author.Needs.{needs}
 use Rattle.lists.proofs.deciding.leave_verdict.Statement.{statement}

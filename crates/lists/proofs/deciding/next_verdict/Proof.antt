@@ -1,5 +1,6 @@
 use Rattle.records.proofs.Tests.{tested}
-use Rattle.lists.proofs.Decisions.{is-sound, is-unsound, decided-unsound, decided-accepted, decided-sized}
+use Rattle.lists.proofs.SoundLaws.{is-sound, is-unsound}
+use Rattle.lists.proofs.Decisions.{decided-unsound, decided-accepted, decided-sized}
 use Rattle.lists.proofs.CursorCalls.{next-spoiled, next-outside, next-accepts, next-needs, next-does, room-carriable, sound-idx, idx-small, out-small}
 use borrow.Author.Needs.{needs}
 use Rattle.lists.proofs.deciding.next_verdict.Statement.{statement}

@@ -1,5 +1,5 @@
 use Rattle.records.proofs.Tests.{tested}
-use Rattle.lists.proofs.Decisions.{is-sound, is-unsound}
+use Rattle.lists.proofs.SoundLaws.{is-sound, is-unsound}
 use Rattle.lists.proofs.CursorCalls.{sound-idx, idx-small, out-small}
 use Rattle.lists.proofs.PhaseCalls.{sync-unsound, sync-phase, sync-spoils, sync-decided}
 use borrow.Author.Needs.{needs}

@@ -36,7 +36,7 @@ same-length : tie.Need-same-length Inv-loop μ-loop
 same-length c = search needs
 
 returns : tie.Need-returns Inv-loop μ-loop
-returns c = filling-done (c .before .loop .inv) (c .loop-test .left)
+returns c = let at : tie.At-loop Inv-loop μ-loop = search in filling-done (at .loop .inv) (c .loop-test .left)
 
 pub zero-glyphs-spec : {M : Type 1} → statement M
 zero-glyphs-spec = tie.close (tie.spec Inv-loop μ-loop loop-holds blank-requires put-requires add-i loop-less loop-again same-length returns)

@@ -1,4 +1,5 @@
-use Rattle.lists.proofs.ItemLaws.{held-first, held-second, item-first, item-second, none-unsound}
+use Rattle.lists.proofs.SoundLaws.{held-first, held-second}
+use Rattle.lists.proofs.ItemLaws.{item-first, item-second, none-unsound}
 use borrow.Author.Needs.{needs}
 use Rattle.lists.proofs.items.item.Statement.{statement}
 use Rattle.lists.proofs.items.item.Tie as tie

@@ -1,23 +1,18 @@
 -- What is joined so far is that of the masks from i on.
-use mathlib.Core.{Path.refl, Path._∙_, List.map}
 use native.Mathlib.Omega.{arith}
-use Rattle.records.specs.Glyphs.{Info}
-use Rattle.records.specs.Ranges.{infos}
 use Rattle.records.specs.View.{glyphs}
-use Rattle.lists.proofs.Infos.{length-words, word-of}
 use Rattle.lists.proofs.Joining.{Joining, joining-none, joining-more, joining-done}
-use borrow.Author.Needs.{needs}
 use Rattle.lists.proofs.masks.joined_masks.Statement.{statement}
 use Rattle.lists.proofs.masks.joined_masks.Tie as tie
 
 abbrev Inv-loop : tie.InvT-loop
-Inv-loop ws s e x₀ i₀ x i = Joining (map (λ (j : Info). j .mask) (infos (glyphs ws))) s e x i
+Inv-loop ws s e x₀ i₀ x i = Joining (glyphs ws) s e x i
 
 abbrev μ-loop : tie.MeasureT-loop
 μ-loop ws s e x₀ i₀ x i = i
 
 loop-holds : tie.Need-loop-holds Inv-loop μ-loop
-loop-holds c = joining-none (search)
+loop-holds c = search joining-none
 
 sub-i : tie.Need-sub-i Inv-loop μ-loop
 sub-i c = omega arith
@@ -29,13 +24,10 @@ loop-less : tie.Need-loop-less Inv-loop μ-loop
 loop-less c = omega arith
 
 loop-again : tie.Need-loop-again Inv-loop μ-loop
-loop-again c =
-    let at = c .before .before in
-    let ws = at .before .before .args .ws .now in
-    joining-more (at .loop .inv) (c .before .loop-test .taken) (rw (length-words (λ (j : Info). j .mask) (glyphs ws)) (at .before .before .pre .1)) _ _ (c .mask-at .ensures ∙ word-of (λ (j : Info). j .mask) (glyphs ws) _ 0 (omega arith)) refl
+loop-again c = search joining-more
 
 returns : tie.Need-returns Inv-loop μ-loop
-returns c = search (joining-done, needs)
+returns c = search joining-done
 
 pub joined-masks-spec : {M : Type 1} → statement M
 joined-masks-spec = tie.close (tie.spec Inv-loop μ-loop loop-holds sub-i mask-at-requires loop-less loop-again returns)

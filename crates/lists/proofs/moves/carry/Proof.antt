@@ -1,4 +1,4 @@
-use Rattle.lists.proofs.Moving.{carried-apart, carried-none, carried-within}
+use Rattle.lists.proofs.Carrying.{carried-apart, carried-none, carried-within}
 use borrow.Author.Needs.{needs}
 use Rattle.lists.proofs.moves.carry.Statement.{statement}
 use Rattle.lists.proofs.moves.carry.Tie as tie

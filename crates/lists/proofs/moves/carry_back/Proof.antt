@@ -1,4 +1,4 @@
-use Rattle.lists.proofs.Moving.{returned-apart, returned-none, returned-within}
+use Rattle.lists.proofs.Carrying.{returned-apart, returned-none, returned-within}
 use borrow.Author.Needs.{needs}
 use Rattle.lists.proofs.moves.carry_back.Statement.{statement}
 use Rattle.lists.proofs.moves.carry_back.Tie as tie

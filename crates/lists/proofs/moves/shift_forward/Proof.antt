@@ -1,4 +1,4 @@
-use Rattle.lists.proofs.Moving.{shifted-none}
+use Rattle.lists.proofs.Carrying.{shifted-none}
 use borrow.Author.Needs.{needs}
 use Rattle.lists.proofs.moves.shift_forward.Statement.{statement}
 use Rattle.lists.proofs.moves.shift_forward.Tie as tie

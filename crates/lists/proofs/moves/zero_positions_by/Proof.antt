@@ -1,4 +1,4 @@
-use Rattle.lists.proofs.Moving.{zeroed}
+use Rattle.lists.proofs.Carrying.{zeroed}
 use Rattle.lists.proofs.Decisions.{sided-first, sided-second}
 use borrow.Author.Needs.{needs}
 use Rattle.lists.proofs.moves.zero_positions_by.Statement.{statement}

@@ -1,21 +1,18 @@
 -- What is found so far is the least from i on.
 use native.Mathlib.Omega.{arith}
-use Rattle.records.specs.Ranges.{clusters}
 use Rattle.records.specs.View.{glyphs}
-use Rattle.records.proofs.View.{length-clusters}
-use Rattle.lists.proofs.Runs.{Lowest, lowest-none, lowest-more, lowest-done}
-use borrow.Author.Needs.{needs}
+use Rattle.lists.proofs.Runs.{Lowest, lowest-none, lowest-less, lowest-stays, lowest-done}
 use Rattle.lists.proofs.ranges.least_cluster.Statement.{statement}
 use Rattle.lists.proofs.ranges.least_cluster.Tie as tie
 
 abbrev Inv-loop : tie.InvT-loop
-Inv-loop ws s e m₀ i₀ m i = Lowest (clusters (glyphs ws)) s e m i
+Inv-loop ws s e m₀ i₀ m i = Lowest (glyphs ws) s e m i
 
 abbrev μ-loop : tie.MeasureT-loop
 μ-loop ws s e m₀ i₀ m i = i
 
 loop-holds : tie.Need-loop-holds Inv-loop μ-loop
-loop-holds c = lowest-none (search)
+loop-holds c = search lowest-none
 
 sub-i : tie.Need-sub-i Inv-loop μ-loop
 sub-i c = omega arith
@@ -27,20 +24,16 @@ loop-less : tie.Need-loop-less Inv-loop μ-loop
 loop-less c = omega arith
 
 loop-again : tie.Need-loop-again Inv-loop μ-loop
-loop-again c =
-    let at = c .before .before .before in
-    lowest-more (at .loop .inv) (c .before .before .loop-test .taken) (rw (length-clusters (glyphs (at .before .before .args .ws .now))) (at .before .before .pre .1)) _ _ (c .before .cluster-at .ensures) (omega arith)
+loop-again c = search lowest-less
 
 loop-less-2 : tie.Need-loop-less-2 Inv-loop μ-loop
 loop-less-2 c = omega arith
 
 loop-again-2 : tie.Need-loop-again-2 Inv-loop μ-loop
-loop-again-2 c =
-    let at = c .before .before .before in
-    lowest-more (at .loop .inv) (c .before .before .loop-test .taken) (rw (length-clusters (glyphs (at .before .before .args .ws .now))) (at .before .before .pre .1)) _ _ (c .before .cluster-at .ensures) (omega arith)
+loop-again-2 c = search lowest-stays
 
 returns : tie.Need-returns Inv-loop μ-loop
-returns c = search (lowest-done, needs)
+returns c = search lowest-done
 
 pub least-cluster-spec : {M : Type 1} → statement M
 least-cluster-spec = tie.close (tie.spec Inv-loop μ-loop loop-holds sub-i cluster-at-requires loop-less loop-again loop-less-2 loop-again-2 returns)

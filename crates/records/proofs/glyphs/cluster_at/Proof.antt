@@ -14,7 +14,7 @@ mul-result-2 : tie.Need-mul-result-2
 mul-result-2 c = omega (arith, glyph-room _ _ (c .pre))
 
 shared-slice-read-result : tie.Need-shared-slice-read-result
-shared-slice-read-result c = omega (arith, glyph-room _ _ (c .before .pre))
+shared-slice-read-result c = let start : tie.Start = search in omega (arith, glyph-room _ _ (start .pre))
 
 returns : tie.Need-returns
 returns c = search (cluster-word, needs)

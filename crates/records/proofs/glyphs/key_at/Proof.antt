@@ -11,19 +11,19 @@ add-at : tie.Need-add-at
 add-at c = omega (arith, glyph-room _ _ (c .pre))
 
 mul-result : tie.Need-mul-result
-mul-result c = omega (arith, glyph-room _ _ (c .before .pre))
+mul-result c = let start : tie.Start = search in omega (arith, glyph-room _ _ (start .pre))
 
 shared-slice-read-result : tie.Need-shared-slice-read-result
-shared-slice-read-result c = omega (arith, glyph-room _ _ (c .before .before .pre))
+shared-slice-read-result c = let start : tie.Start = search in omega (arith, glyph-room _ _ (start .pre))
 
 returns : tie.Need-returns
 returns c = search (key-first, needs)
 
 mul-to : tie.Need-mul-to
-mul-to c = omega (arith, glyph-room _ _ (c .before .pre))
+mul-to c = let start : tie.Start = search in omega (arith, glyph-room _ _ (start .pre))
 
 add-to : tie.Need-add-to
-add-to c = omega (arith, glyph-room _ _ (c .before .pre))
+add-to c = let start : tie.Start = search in omega (arith, glyph-room _ _ (start .pre))
 
 mul-result-2 : tie.Need-mul-result-2
 mul-result-2 c = search (glyph-room, needs)

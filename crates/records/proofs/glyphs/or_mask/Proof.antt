@@ -14,13 +14,13 @@ mul-ws : tie.Need-mul-ws
 mul-ws c = omega (arith, glyph-room _ _ (c .pre))
 
 slice-read-ws : tie.Need-slice-read-ws
-slice-read-ws c = omega (arith, glyph-room _ _ (c .before .pre))
+slice-read-ws c = let start : tie.Start = search in omega (arith, glyph-room _ _ (start .pre))
 
 mul-ws-2 : tie.Need-mul-ws-2
-mul-ws-2 c = omega (arith, glyph-room _ _ (c .before .pre))
+mul-ws-2 c = let start : tie.Start = search in omega (arith, glyph-room _ _ (start .pre))
 
 slice-write-ws : tie.Need-slice-write-ws
-slice-write-ws c = omega (arith, glyph-room _ _ (c .before .pre))
+slice-write-ws c = let start : tie.Start = search in omega (arith, glyph-room _ _ (start .pre))
 
 returns : tie.Need-returns
 returns c = search (more-bits, needs)

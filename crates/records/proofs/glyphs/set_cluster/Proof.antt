@@ -22,31 +22,31 @@ mul-if1 : tie.Need-mul-if1
 mul-if1 c = omega (arith, glyph-room _ _ (c .pre))
 
 slice-read-if1 : tie.Need-slice-read-if1
-slice-read-if1 c = omega (arith, glyph-room _ _ (c .before .pre))
+slice-read-if1 c = let start : tie.Start = search in omega (arith, glyph-room _ _ (start .pre))
 
 mul-ws : tie.Need-mul-ws
-mul-ws c = omega (arith, glyph-room _ _ (c .before .before .pre))
+mul-ws c = let start : tie.Start = search in omega (arith, glyph-room _ _ (start .pre))
 
 slice-read-ws : tie.Need-slice-read-ws
-slice-read-ws c = omega (arith, glyph-room _ _ (c .before .before .before .pre))
+slice-read-ws c = let start : tie.Start = search in omega (arith, glyph-room _ _ (start .pre))
 
 mul-ws-2 : tie.Need-mul-ws-2
-mul-ws-2 c = omega (arith, c .slice-known2 .given (5 * c .before .before .before .args .i + 1))
+mul-ws-2 c = let start : tie.Start = search in omega (arith, c .slice-known2 .given (5 * start .args .i + 1))
 
 add-ws : tie.Need-add-ws
-add-ws c = omega (arith, c .slice-known2 .given (5 * c .before .before .before .args .i + 1))
+add-ws c = let start : tie.Start = search in omega (arith, c .slice-known2 .given (5 * start .args .i + 1))
 
 mul-ws-3 : tie.Need-mul-ws-3
-mul-ws-3 c = omega (arith, glyph-room _ _ (c .before .before .before .pre))
+mul-ws-3 c = let start : tie.Start = search in omega (arith, glyph-room _ _ (start .pre))
 
 slice-write-ws : tie.Need-slice-write-ws
-slice-write-ws c = omega (arith, glyph-room _ _ (c .before .before .before .pre))
+slice-write-ws c = let start : tie.Start = search in omega (arith, glyph-room _ _ (start .pre))
 
 mul-ws-4 : tie.Need-mul-ws-4
-mul-ws-4 c = omega (arith, glyph-room _ _ (c .before .before .before .pre))
+mul-ws-4 c = let start : tie.Start = search in omega (arith, glyph-room _ _ (start .pre))
 
 slice-write-ws-2 : tie.Need-slice-write-ws-2
-slice-write-ws-2 c = simp length-set (omega (arith, glyph-room _ _ (c .before .before .before .pre)))
+slice-write-ws-2 c = let start : tie.Start = search in simp length-set (omega (arith, glyph-room _ _ (start .pre)))
 
 returns : tie.Need-returns
 returns c = search (new-cluster, needs)

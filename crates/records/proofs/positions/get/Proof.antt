@@ -5,7 +5,7 @@ use Rattle.records.proofs.positions.get.Statement.{statement}
 use Rattle.records.proofs.positions.get.Tie as tie
 
 mul-read : tie.Need-mul-read
-mul-read c = omega (arith, place-room _ _ (c .before .pre))
+mul-read c = let start : tie.Start = search in omega (arith, place-room _ _ (start .pre))
 
 read-requires : tie.Need-read-requires
 read-requires c κs = search (place-room, needs)
