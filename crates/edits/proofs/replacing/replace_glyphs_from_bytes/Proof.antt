@@ -6,16 +6,16 @@ use Rattle.edits.proofs.replacing.replace_glyphs_from_bytes.Statement.{
 use Rattle.edits.proofs.replacing.replace_glyphs_from_bytes.Tie as tie
 
 replace-by-requires : tie.Need-replace-by-requires
-replace-by-requires c κs = replace-ready (c .before .before .before .before .before .replace-verdict .ensures) (c .before .before .before .before .if1 .taken)
+replace-by-requires c κs = let at : tie.After-replace-verdict = search in replace-ready (at .replace-verdict .ensures) (search)
 
 same-length : tie.Need-same-length
-same-length c = ⊎-elim (λ w. search (kept-length, needs)) (λ w. search (kept-length, needs)) (c .before .if1 .came)
+same-length c = let end : tie.Joined1 = search in ⊎-elim (λ w. search (kept-length, needs)) (λ w. search (kept-length, needs)) (end .if1 .came)
 
 same-length-2 : tie.Need-same-length-2
-same-length-2 c = ⊎-elim (λ w. search (kept-length, needs)) (λ w. search (kept-length, needs)) (c .before .if1 .came)
+same-length-2 c = let end : tie.Joined1 = search in ⊎-elim (λ w. search (kept-length, needs)) (λ w. search (kept-length, needs)) (end .if1 .came)
 
 returns : tie.Need-returns
-returns c = ⊎-elim (λ w. search (replace-acted (c .before .before .replace-verdict .ensures))) (λ w. search (replace-still (c .before .before .replace-verdict .ensures))) (c .before .if1 .came)
+returns c = let end : tie.Joined1 = search in let at : tie.After-replace-verdict = search in ⊎-elim (λ w. search (replace-acted (at .replace-verdict .ensures))) (λ w. search (replace-still (at .replace-verdict .ensures))) (end .if1 .came)
 
 pub replace-glyphs-from-bytes-spec : {M : Type 1} → statement M
 replace-glyphs-from-bytes-spec = tie.close (tie.spec (search needs) (search needs) (search needs) (search needs) replace-by-requires (search needs) same-length same-length-2 returns)

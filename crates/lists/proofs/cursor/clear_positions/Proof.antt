@@ -9,13 +9,13 @@ zero-positions-by-requires : tie.Need-zero-positions-by-requires
 zero-positions-by-requires c κs = search (clear-first, clear-second)
 
 same-length : tie.Need-same-length
-same-length c = ⊎-elim (λ w. search (kept-length, needs)) (λ w. search (kept-length, needs)) (c .before .before .if1 .came)
+same-length c = let end : tie.Joined1 = search in ⊎-elim (λ w. search (kept-length, needs)) (λ w. search (kept-length, needs)) (end .if1 .came)
 
 same-length-2 : tie.Need-same-length-2
-same-length-2 c = ⊎-elim (λ w. search (kept-length, needs)) (λ w. search (kept-length, needs)) (c .before .before .if1 .came)
+same-length-2 c = let end : tie.Joined1 = search in ⊎-elim (λ w. search (kept-length, needs)) (λ w. search (kept-length, needs)) (end .if1 .came)
 
 returns : tie.Need-returns
-returns c = ⊎-elim (λ w. search positions-acted) (λ w. search positions-still) (c .before .before .if1 .came)
+returns c = let end : tie.Joined1 = search in ⊎-elim (λ w. search positions-acted) (λ w. search positions-still) (end .if1 .came)
 
 pub clear-positions-spec : {M : Type 1} → statement M
 clear-positions-spec = tie.close (tie.spec (search needs) zero-positions-by-requires (search needs) (search needs) same-length same-length-2 returns)

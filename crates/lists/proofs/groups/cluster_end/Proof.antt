@@ -13,7 +13,7 @@ equal-end-requires : tie.Need-equal-end-requires
 equal-end-requires c κs = (omega arith, omega arith)
 
 returns : tie.Need-returns
-returns c = c .equal-end .ensures ∙ rw (c .before .cluster-at .ensures)
+returns c = let at : tie.After-cluster-at = search in c .equal-end .ensures ∙ rw (at .cluster-at .ensures)
 
 pub cluster-end-spec : {M : Type 1} → statement M
 cluster-end-spec = tie.close (tie.spec add-equal-end cluster-at-requires equal-end-requires returns)
