@@ -17,10 +17,10 @@ use Rattle.lists.proofs.SoundLaws.{sound-held}
 use Rattle.lists.proofs.SizeLaws.{fits-within}
 use Rattle.lists.proofs.ForwardLaws as forths
 use Rattle.lists.proofs.BackLaws as backs
+use Rattle.lists.proofs.Inner.{room-is}
 use Rattle.lists.proofs.Moving.{Returnable, shift-moves, return-moves}
 use Rattle.lists.proofs.Copying.{copied-self, copied-nothing}
 use Rattle.lists.proofs.Decisions.{Lying, near-same, near-limits, near-placed, leaves-is, decided-accepted, decided-does, room-of}
-use Rattle.lists.proofs.ForwardCalls.{asked}
 
 -- ---- back, with the cost of it
 module _ {n : ℕ} {shifts : Bool} {b : Buffer} {v : Verdict} {k : Limits} {x : Buffer} {t : Bool} (ek : k ≡ costs n (b .limits)) (ex : x ≡ withLimitsOf k b) (et : t ≡ isNegative (k .«max_ops»)) where
@@ -74,17 +74,11 @@ left-of b = b .len .0 - b .idx .0
 module _ {n m : ℕ} {b : Buffer} {v : Verdict} {j k : Limits} {x : Buffer} {t : Bool} (em : m ≡ left-of b + n) (ej : j ≡ grown m (b .limits)) (ek : k ≡ costs (left-of b) j) (ex : x ≡ withLimitsOf k b) (et : t ≡ isNegative (k .«max_ops»)) where
   pub shifts-spent : t ≡ true → Leaves x false (Value 0) v → Shifts n b v
   unfolding shiftVerdict
-  shifts-spent h q = record { is = rw (sym (ap (λ (l : Limits). isNegative (l .«max_ops»)) spent) ∙ (sym et ∙ h)) (q .is ∙ ap (λ (u : Buffer). leaving u false (Value 0)) (ex ∙ ap (λ (l : Limits). withLimitsOf l b) spent)) }
-    where
-      spent : k ≡ costs (left-of b) (grown (left-of b + n) (b .limits))
-      spent = ek ∙ ap (costs (left-of b)) (ej ∙ ap (λ (i : ℕ). grown i (b .limits)) em)
+  shifts-spent h q = let paid = forths.paid-is (left-of b + n) (left-of b) (b .limits) em ej ek in record { is = rw (forths.negative-is _ paid et h) (q .is ∙ ap (λ (u : Buffer). leaving u false (Value 0)) (ex ∙ ap (λ (l : Limits). withLimitsOf l b) paid)) }
 
   pub shifts-goes : {y : Buffer} → t ≡ false → y ≡ atPlaces n m (b .«out_len» .0) x → Backs n true y v → Shifts n b v
   unfolding shiftVerdict
-  shifts-goes h ey q = record { is = rw (sym (ap (λ (l : Limits). isNegative (l .«max_ops»)) spent) ∙ (sym et ∙ h)) (q .is ∙ ap (backVerdict n true) (ey ∙ (ap (λ (i : ℕ). atPlaces n i (b .«out_len» .0) x) em ∙ ap (atPlaces n (left-of b + n) (b .«out_len» .0)) (ex ∙ ap (λ (l : Limits). withLimitsOf l b) spent)))) }
-    where
-      spent : k ≡ costs (left-of b) (grown (left-of b + n) (b .limits))
-      spent = ek ∙ ap (costs (left-of b)) (ej ∙ ap (λ (i : ℕ). grown i (b .limits)) em)
+  shifts-goes h ey q = let paid = forths.paid-is (left-of b + n) (left-of b) (b .limits) em ej ek in record { is = rw (forths.negative-is _ paid et h) (q .is ∙ ap (backVerdict n true) (ey ∙ (ap (λ (i : ℕ). atPlaces n i (b .«out_len» .0) x) em ∙ ap (atPlaces n (left-of b + n) (b .«out_len» .0)) (ex ∙ ap (λ (l : Limits). withLimitsOf l b) paid)))) }
 
 module _ {b : Buffer} {n : ℕ} {f s : List ℕ} (w : BackOver b n f s) where
   over : {run other : List ℕ} → Lying b f run other → backs.BackOver b n run other
@@ -105,11 +99,11 @@ module _ {b : Buffer} {n : ℕ} {f s : List ℕ} (w : BackOver b n f s) where
 
 module _ {b : Buffer} {n m : ℕ} {f s : List ℕ} {v : Verdict} {room : Room} (w : BackOver b n f s) (em : m ≡ capacityOf (length f)) (er : room ≡ roomFor m (left-of b + n) (b .limits)) where
   pub over-refused : room ≡ Over → Leaves b false (No OverCapacity) v → MovesBack n b f s v
-  over-refused h q = record { is = decided-accepted (w .is-sound) (record { near = near-same b; law = λ run other l. backs.over-over (over w l) (room-of _ l (asked (left-of b + n) f (b .limits) em er h)) refl }) q }
+  over-refused h q = record { is = decided-accepted (w .is-sound) (record { near = near-same b; law = λ run other l. backs.over-over (over w l) (room-of _ l (room-is (left-of b + n) (b .limits) em er h)) refl }) q }
 
   pub over-fails : room ≡ GivesUp → Leaves (failedBuffer b) false (Value 0) v → MovesBack n b f s v
   unfolding failedBuffer
-  over-fails h q = record { is = decided-accepted (w .is-sound) (record { near = near-limits b _; law = λ run other l. backs.over-gives-up (over w l) (room-of _ l (asked (left-of b + n) f (b .limits) em er h)) refl refl refl }) q }
+  over-fails h q = record { is = decided-accepted (w .is-sound) (record { near = near-limits b _; law = λ run other l. backs.over-gives-up (over w l) (room-of _ l (room-is (left-of b + n) (b .limits) em er h)) refl refl refl }) q }
 
   pub over-goes : room ≡ Fits → Shifts n b v → MovesBack n b f s v
   unfolding shiftVerdict backVerdict atPlaces withLimitsOf
@@ -123,7 +117,7 @@ module _ {b : Buffer} {n m : ℕ} {f s : List ℕ} {v : Verdict} {room : Room} (
       up = atPlaces n (left-of b + n) (b .«out_len» .0) (withLimitsOf g b)
 
       there : roomFor (capacityOf (length f)) (left-of b + n) (b .limits) ≡ Fits
-      there = asked (left-of b + n) f (b .limits) em er fits
+      there = room-is (left-of b + n) (b .limits) em er fits
 
       room-at : {run other : List ℕ} → Lying b f run other → roomFor (capacityOf (length run)) (left-of b + n) (b .limits) ≡ Fits
       room-at l = room-of (left-of b + n) l there

@@ -12,7 +12,7 @@ use Rattle.lists.specs.State.{accountOf, Held, roomFor}
 use Rattle.lists.specs.States.{reply, withLimitsOf, atPlaces}
 use Rattle.lists.specs.Contract.{isNo, accountIn, MeetsIn, Moves}
 use Rattle.lists.specs.Moving.{SyncOutput}
-use Rattle.lists.specs.Cursor.{back, cursorAt, growing, swapped, paysFor, forward, goesBack, backward, moveTo}
+use Rattle.lists.specs.Cursor.{cursorAt, growing, paysFor, forward, goesBack, backward, moveTo}
 use Rattle.lists.proofs.Accounts.{output-clean, output-of, spoiled-of, limits-of, out-of, rest-of, idx-of, len-of}
 use Rattle.lists.proofs.SoundLaws.{held-lengths}
 use Rattle.lists.proofs.Moving.{Shiftable, Returnable}

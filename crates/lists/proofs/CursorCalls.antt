@@ -7,7 +7,7 @@ use lib.{Dec.eqb, Dec.ltb, ListN.length}
 use Rattle.records.specs.{WrongPhase, OutOfRange, Done, Value, No, Limits, Counters.capacityOf, Counters.limited, Counters.entered, Counters.left, Counters.ligSerial, Counters.withSerial, View.glyphs}
 use Rattle.records.proofs.View.{length-glyphs, glyphs-same}
 use Rattle.lists.specs.declared.{Buffer.Buffer, Verdict.Verdict}
-use Rattle.lists.specs.Account.{Account, outputPhase, spoiledPhase, hasOutput, isSpoiled, len, idx, limiting}
+use Rattle.lists.specs.Account.{Account, outputPhase, spoiledPhase, hasOutput, isSpoiled, idx, limiting}
 use Rattle.lists.specs.Results.{refuse_when_else_, Result, accepted, answered}
 use Rattle.lists.specs.Cursor.{enter, leave, allocateLigId, dropping, cursorAt, skipGlyph, nextGlyphs}
 use Rattle.lists.specs.State.{accountOf, sound, Soundness, Held}

@@ -7,7 +7,6 @@ use Rattle.records.specs.{OverCapacity, Value, No, Limits, Counters.capacityOf,
 use Rattle.records.proofs.View.{length-glyphs, glyphs-same}
 use Rattle.lists.specs.declared.{Buffer.Buffer, Verdict.Verdict, Room.Room, Room.the-variants.Fits, Room.the-variants.GivesUp, Room.the-variants.Over}
 use Rattle.lists.specs.Copied.{copied}
-use Rattle.lists.specs.Cursor.{forward}
 use Rattle.lists.specs.State.{roomFor}
 use Rattle.lists.specs.States.{withLimitsOf, atPlaces}
 use Rattle.lists.specs.Moving.{Carriable, Carried, Movable, Moved, Forwarding, forwardVerdict, Forwards, MovesForward}
@@ -17,6 +16,7 @@ use Rattle.lists.proofs.SizeLaws.{fits-within}
 use Rattle.lists.proofs.SyncLaws.{NextOutput}
 use Rattle.lists.proofs.ForwardLaws as forths
 use Rattle.lists.proofs.BackLaws as backs
+use Rattle.lists.proofs.Inner.{room-is}
 use Rattle.lists.proofs.Moving.{forward-moves}
 use Rattle.lists.proofs.Decisions.{Lying, near-same, near-limits, near-placed, leaves-is, decided-accepted, decided-does, room-of}
 
@@ -47,16 +47,13 @@ module _ {b : Buffer} {n : ℕ} {f s : List ℕ} (w : Forwarding b n f s) where
       let fit : b .«out_len» .0 + n ≤ capacityOf (length f) = fits-within (capacityOf (length f)) (b .«out_len» .0 + n) (b .limits) (omega arith) fits in
       record { same = glyphs-same f s (v .same); idx-in = v .idx-in; grows = omega arith; len-in = omega arith; out-in = omega arith; out-after-in = omega arith; ahead = omega (arith, w .in-len); behind = omega arith }
 
-pub asked : {m : ℕ} (n : ℕ) (f : List ℕ) {room x : Room} (l : Limits) → m ≡ capacityOf (length f) → room ≡ roomFor m n l → room ≡ x → roomFor (capacityOf (length f)) n l ≡ x
-asked n f l em er h = ap (λ (j : ℕ). roomFor j n l) (sym em) ∙ (sym er ∙ h)
-
 module _ {b : Buffer} {n m : ℕ} {f s : List ℕ} {v : Verdict} {room : Room} (w : Forwarding b n f s) (em : m ≡ capacityOf (length f)) (er : room ≡ roomFor m (b .«out_len» .0 + n) (b .limits)) where
   pub forward-over : room ≡ Over → Leaves b false (No OverCapacity) v → MovesForward n b f s v
-  forward-over h q = record { is = decided-accepted (w .is-sound) (record { near = near-same b; law = λ run other l. forths.forward-over (forth w l) (room-of _ l (asked (b .«out_len» .0 + n) f (b .limits) em er h)) refl }) q }
+  forward-over h q = record { is = decided-accepted (w .is-sound) (record { near = near-same b; law = λ run other l. forths.forward-over (forth w l) (room-of _ l (room-is (b .«out_len» .0 + n) (b .limits) em er h)) refl }) q }
 
   pub forward-fails : room ≡ GivesUp → Leaves (failedBuffer b) false (Value 0) v → MovesForward n b f s v
   unfolding failedBuffer
-  forward-fails h q = record { is = decided-accepted (w .is-sound) (record { near = near-limits b _; law = λ run other l. forths.forward-gives-up (forth w l) (room-of _ l (asked (b .«out_len» .0 + n) f (b .limits) em er h)) refl refl refl }) q }
+  forward-fails h q = record { is = decided-accepted (w .is-sound) (record { near = near-limits b _; law = λ run other l. forths.forward-gives-up (forth w l) (room-of _ l (room-is (b .«out_len» .0 + n) (b .limits) em er h)) refl refl refl }) q }
 
   pub forward-goes : room ≡ Fits → Forwards n b v → MovesForward n b f s v
   unfolding forwardVerdict atPlaces withLimitsOf
@@ -66,7 +63,7 @@ module _ {b : Buffer} {n m : ℕ} {f s : List ℕ} {v : Verdict} {room : Room} (
       g = costs n (grown (b .«out_len» .0 + n) (b .limits))
 
       room-at : {run other : List ℕ} → Lying b f run other → roomFor (capacityOf (length run)) (b .«out_len» .0 + n) (b .limits) ≡ Fits
-      room-at l = room-of (b .«out_len» .0 + n) l (asked (b .«out_len» .0 + n) f (b .limits) em er fits)
+      room-at l = room-of (b .«out_len» .0 + n) l (room-is (b .«out_len» .0 + n) (b .limits) em er fits)
 
       by : (t : Bool) → isNegative (g .«max_ops») ≡ t → v ≡ cond t (leaving (withLimitsOf g b) false (Value 0)) (leaving (atPlaces (b .idx .0 + n) (b .len .0) (b .«out_len» .0 + n) (withLimitsOf g b)) true (Value 1)) → MovesForward n b f s v
       by true h e = record { is = decided-accepted (w .is-sound) (record { near = near-limits b g; law = λ run other l. forths.forward-spent (forth w l) (room-at l) refl refl h refl }) (leaves-is (withLimitsOf g b) e) }
@@ -78,7 +75,7 @@ module _ {b : Buffer} {n m : ℕ} {f s : List ℕ} {v : Verdict} {room : Room} (
               let some : b .«out_len» .0 + n - b .«out_len» .0 ≡ n = omega arith in
               let gone : Carried (b .«have_separate_output») (b .idx .0) (b .«out_len» .0) n run other run′ other′ = rw some at (act .forth (omega (arith, w .some))) in
               forths.forward-moves (forth w l) (room-at l) refl refl h (forward-moves _ n run other (forths.forward-ready (forth w l) (room-at l) refl refl) run′ other′ (gone .run-is) (gone .other-is) lr lo refl) refl;
-        }) (λ c. forth-movable w (asked (b .«out_len» .0 + n) f (b .limits) em er fits)) (leaves-is _ refl);
+        }) (λ c. forth-movable w (room-is (b .«out_len» .0 + n) (b .limits) em er fits)) (leaves-is _ refl);
       })
 
 module _ {b : Buffer} {n : ℕ} {f s : List ℕ} (w : Forwarding b n f s) where
@@ -89,14 +86,8 @@ module _ {b : Buffer} {n : ℕ} {f s : List ℕ} (w : Forwarding b n f s) where
 module _ {n : ℕ} {b : Buffer} {v : Verdict} {m : ℕ} {j k : Limits} {x : Buffer} {t : Bool} (em : m ≡ b .«out_len» .0 + n) (ej : j ≡ grown m (b .limits)) (ek : k ≡ costs n j) (ex : x ≡ withLimitsOf k b) (et : t ≡ isNegative (k .«max_ops»)) where
   pub forwards-spent : t ≡ true → Leaves x false (Value 0) v → Forwards n b v
   unfolding forwardVerdict
-  forwards-spent h q = record { is = rw (sym (ap (λ (l : Limits). isNegative (l .«max_ops»)) spent) ∙ (sym et ∙ h)) (q .is ∙ ap (λ (u : Buffer). leaving u false (Value 0)) (ex ∙ ap (λ (l : Limits). withLimitsOf l b) spent)) }
-    where
-      spent : k ≡ costs n (grown (b .«out_len» .0 + n) (b .limits))
-      spent = ek ∙ ap (costs n) (ej ∙ ap (λ (i : ℕ). grown i (b .limits)) em)
+  forwards-spent h q = let paid = forths.paid-is (b .«out_len» .0 + n) n (b .limits) em ej ek in record { is = rw (forths.negative-is _ paid et h) (q .is ∙ ap (λ (u : Buffer). leaving u false (Value 0)) (ex ∙ ap (λ (l : Limits). withLimitsOf l b) paid)) }
 
   pub forwards-goes : {y : Buffer} → t ≡ false → y ≡ atPlaces (b .idx .0 + n) (b .len .0) m x → Leaves y true (Value 1) v → Forwards n b v
   unfolding forwardVerdict
-  forwards-goes h ey q = record { is = rw (sym (ap (λ (l : Limits). isNegative (l .«max_ops»)) spent) ∙ (sym et ∙ h)) (q .is ∙ ap (λ (u : Buffer). leaving u true (Value 1)) (ey ∙ (ap (λ (i : ℕ). atPlaces (b .idx .0 + n) (b .len .0) i x) em ∙ ap (atPlaces (b .idx .0 + n) (b .len .0) (b .«out_len» .0 + n)) (ex ∙ ap (λ (l : Limits). withLimitsOf l b) spent)))) }
-    where
-      spent : k ≡ costs n (grown (b .«out_len» .0 + n) (b .limits))
-      spent = ek ∙ ap (costs n) (ej ∙ ap (λ (i : ℕ). grown i (b .limits)) em)
+  forwards-goes h ey q = let paid = forths.paid-is (b .«out_len» .0 + n) n (b .limits) em ej ek in record { is = rw (forths.negative-is _ paid et h) (q .is ∙ ap (λ (u : Buffer). leaving u true (Value 1)) (ey ∙ (ap (λ (i : ℕ). atPlaces (b .idx .0 + n) (b .len .0) i x) em ∙ ap (atPlaces (b .idx .0 + n) (b .len .0) (b .«out_len» .0 + n)) (ex ∙ ap (λ (l : Limits). withLimitsOf l b) paid)))) }

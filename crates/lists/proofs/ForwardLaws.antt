@@ -9,7 +9,7 @@ use Rattle.lists.specs.Results.{Result, answered, outcome, needing}
 use Rattle.lists.specs.State.{stateOf, accountOf, roomFor}
 use Rattle.lists.specs.States.{reply, withLimitsOf}
 use Rattle.lists.specs.Contract.{isNo, exchanged, accountIn, MeetsIn, Moves}
-use Rattle.lists.specs.Cursor.{moved, back, growing, swapped, paysFor, forward, goesBack, backward}
+use Rattle.lists.specs.Cursor.{moved, back, growing, paysFor, forward, goesBack, backward}
 use Rattle.lists.proofs.Accounts.{out-of}
 use Rattle.lists.proofs.Moving.{Forwardable, Returnable}
 use Rattle.lists.proofs.Calls.{in-refused, in-answered}
@@ -57,6 +57,10 @@ module _ (b : Buffer) (run other : List ℕ) (n : ℕ) (x : Result ℕ) where
 -- what the code says of it
 pub negative-is : {t y : Bool} {l : Limits} (m : Limits) → l ≡ m → t ≡ isNegative (l .«max_ops») → t ≡ y → isNegative (m .«max_ops») ≡ y
 negative-is m el et ey = ap (λ (x : Limits). isNegative (x .«max_ops»)) (sym el) ∙ (sym et ∙ ey)
+
+-- a size, and then a cost
+pub paid-is : {m : ℕ} (n d : ℕ) (l : Limits) {j k : Limits} → m ≡ n → j ≡ grown m l → k ≡ costs d j → k ≡ costs d (grown n l)
+paid-is n d l em ej ek = ek ∙ ap (costs d) (ej ∙ ap (λ (i : ℕ). grown i l) em)
 
 -- ---- forward
 module _ {b : Buffer} {n : ℕ} {run other : List ℕ} (v : NextOutput b n run other) where

@@ -7,12 +7,12 @@ use lib.{Dec.ltb, ListN.length}
 use Rattle.records.specs.{OverCapacity, Done, Value, Limits, Counters.capacityOf, Counters.isNegative, Counters.costs, Counters.failed, Counters.grown, View.glyphs, View.wordsFrom}
 use Rattle.records.proofs.View.{length-glyphs}
 use Rattle.lists.specs.declared.{Buffer.Buffer, Reply.Reply, Room.Room, Room.the-variants.Fits, Room.the-variants.GivesUp, Room.the-variants.Over}
-use Rattle.lists.specs.Account.{Account, withLimits, spoiledPhase, len, idx, limiting, paying, failing, sized}
+use Rattle.lists.specs.Account.{Account, withLimits, spoiledPhase, limiting, paying, failing, sized}
 use Rattle.lists.specs.Results.{Result, refused, accepted, answered, needing}
 use Rattle.lists.specs.State.{goneOf, stateOf, accountOf, Held, roomFor}
 use Rattle.lists.specs.States.{reply, withLimitsOf}
 use Rattle.lists.specs.Contract.{MeetsIn, Moves}
-use Rattle.lists.specs.Cursor.{swapped, paysFor}
+use Rattle.lists.specs.Cursor.{paysFor}
 use Rattle.lists.proofs.Accounts.{rest-of}
 use Rattle.lists.proofs.SizeLaws.{needing-fits, needing-gives-up, needing-over, fits-within}
 use Rattle.lists.proofs.Calls.{in-accepted, in-answered}

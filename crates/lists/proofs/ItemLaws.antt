@@ -12,7 +12,7 @@ use Rattle.lists.specs.Account.{Account, outputPhase, positionsPhase, sp
 use Rattle.lists.specs.State.{shown, goneOf, accountOf, account, sound, Soundness, Held}
 use Rattle.lists.specs.Items.{items}
 use Rattle.lists.proofs.Accounts.{positions-of, length-shown, out-of, rest-of, gone-in, passed-of, gone-spoiled, places-in, gone-within, input-length}
-use Rattle.lists.proofs.SoundLaws.{held-first, sound-held, held-turned, is-sound, is-unsound}
+use Rattle.lists.proofs.SoundLaws.{held-first, sound-held, is-sound, is-unsound}
 use Rattle.lists.proofs.Calls.{account-first, account-second}
 use Rattle.lists.proofs.Outputs.{gone-without}
 use Rattle.lists.proofs.Simple.{input-of, on-account}

@@ -14,7 +14,6 @@ use Rattle.lists.specs.Cursor.{positioned, withoutPositions}
 use Rattle.lists.specs.State.{shown, goneOf, stateOf, accountOf, Held}
 use Rattle.lists.specs.States.{positionedBuffer}
 use Rattle.lists.proofs.Outputs.{goneIn, gone-plain}
-use Rattle.lists.proofs.Accounts.{places-in}
 
 -- a buffer without output, and not spoiled
 pub record Placeable (b : Buffer) (run other : List ℕ) : Type 0 where
@@ -53,9 +52,6 @@ drop-zero n m ps h =
     ap (λ (k : ℕ). drop k (r ++ drop n ps)) e ∙ drop-append-add r (drop n ps) (m - n) ∙ drop-drop (m - n) n ps ∙ ap (λ (k : ℕ). drop k ps) e′
 
 module _ (b : Buffer) (run other : List ℕ) (v : Placeable b run other) where
-  pub place-room : b .len .0 ≤ length (placements other)
-  place-room = places-in b run other (v .held)
-
   place-held : Held (positionedBuffer b) run other
   unfolding positionedBuffer
   place-held = record {

@@ -1,6 +1,6 @@
 -- Laws of the calls on the counters and the cursor that write no word.
 use mathlib.Core.{Path._≡_, Path.refl, Path.sym, Path.ap, Path._∙_, Bool.Bool, Bool.true, Bool.false, Bool.cond, Bool.not, Bool.Bool·beq, Bool._&&_, Bool.false≢true, List.List, List.[], List._++_, List.map}
-use Prim.Native.Nat.{ℕ, _+_, _-_, _≤_, _<_}
+use Prim.Native.Nat.{ℕ, _+_, _≤_, _<_}
 use native.Mathlib.Omega.{arith}
 use borrow.Author.Tests.{le-leb, lt-leb, le-ltb, lt-ltb}
 use lib.{Dec.ltb, ListN.length, ListN.take, ListN.drop, ListN.take-append-drop, Seq.slice, Seq.slice-empty, Seq.take-take, Seq.drop-drop}
@@ -8,13 +8,12 @@ use Rattle.records.specs.{Phase, Plain, Output, Positions, Spoiled, Refusal, Ba
 use Rattle.records.proofs.View.{glyphs-plain, paired-plain}
 use Rattle.records.proofs.Renaming.{take-map}
 use Rattle.lists.specs.declared.{Buffer.Buffer, Reply.Reply}
-use Rattle.lists.specs.Account.{Account, inPhase, withGone, outputPhase, spoiledPhase, hasOutput, input, len, idx, freshAccount, readLevel}
+use Rattle.lists.specs.Account.{Account, inPhase, withGone, outputPhase, spoiledPhase, input, len, idx, freshAccount, readLevel}
 use Rattle.lists.specs.Results.{Result, Outcome, refused, accepted, outcome, refuse_when_else_}
 use Rattle.lists.specs.Cursor.{fresh, dropping, cursorAt, withoutPositions, opened}
 use Rattle.lists.specs.State.{shown, goneOf, stateOf, accountOf, account, inOrder, sound, Soundness, Held}
 use Rattle.lists.specs.States.{atPlaces, freshBuffer, openedBuffer, swappedBuffer, reply}
 use Rattle.lists.specs.Contract.{Begins}
-use Rattle.lists.proofs.Accounts.{output-of}
 use Rattle.lists.proofs.SoundLaws.{held-turned, is-sound, is-unsound, held-first, held-second}
 use Rattle.lists.proofs.Outputs.{gone-output, gone-without}
 
@@ -39,10 +38,6 @@ module _ (b : Buffer) (f s : List ℕ) where
       by-side : (x : Bool) → P (cond x (accountOf b s f) (accountOf b f s))
       by-side true = law s f (held-turned b f s v)
       by-side false = law f s v
-
-  module _ (v : Held b f s) where
-    pub output-account : hasOutput (account b f s) ≡ outputPhase (b .phase)
-    output-account = on-account (λ a. hasOutput a ≡ outputPhase (b .phase)) v (λ run other w. output-of b run other)
 
 -- ---- 00
 pub low-level : (level : ℕ) → level ≤ 3 → level ≡ readLevel level

@@ -3,14 +3,14 @@ use mathlib.Core.{Path._≡_, Path.refl, Path.sym, Path.ap, Path._∙_, Bool.Boo
 use Prim.Native.Nat.{ℕ, _+_, _-_, _≤_}
 use native.Mathlib.Omega.{arith}
 use lib.{Dec.ltb, ListN.length, ListN.take, ListN.drop, Seq.take-nil, Seq.drop-nil}
-use Rattle.records.specs.{Plain, Spoiled, WrongPhase, OutOfRange, OverCapacity, Done, Value, No, Limits, Counters.capacityOf, Counters.failed, Counters.grown, Glyphs.Glyph, View.glyphs, View.wordsFrom}
+use Rattle.records.specs.{Plain, Spoiled, WrongPhase, OverCapacity, Done, Value, No, Limits, Counters.capacityOf, Counters.failed, Counters.grown, Glyphs.Glyph, View.glyphs, View.wordsFrom}
 use Rattle.lists.specs.declared.{Buffer.Buffer, Reply.Reply, Room.the-variants.Fits, Room.the-variants.GivesUp, Room.the-variants.Over}
-use Rattle.lists.specs.Account.{Account, inPhase, withGone, outputPhase, spoiledPhase, hasOutput, isSpoiled, len, idx, outLen, failing, sized, readLevel}
+use Rattle.lists.specs.Account.{Account, inPhase, withGone, outputPhase, spoiledPhase, hasOutput, isSpoiled, len, outLen, failing, sized, readLevel}
 use Rattle.lists.specs.Results.{refuse_when_else_, Result, refused, accepted, answered, outcome, needing}
 use Rattle.lists.specs.State.{shown, goneOf, stateOf, accountOf, Held, roomFor}
 use Rattle.lists.specs.States.{reply, withLimitsOf, swappedBuffer, spoiledBuffer}
 use Rattle.lists.specs.Contract.{exchanged, accountIn, MeetsIn, Moves}
-use Rattle.lists.specs.Cursor.{moved, cursorAt, swapped, spoiling, nextGlyphs, sync}
+use Rattle.lists.specs.Cursor.{moved, swapped, spoiling, nextGlyphs, sync}
 use Rattle.lists.proofs.Accounts.{output-clean, output-of, spoiled-of, limits-of, out-of, rest-of, len-of}
 use Rattle.lists.proofs.Moving.{Forwardable}
 use Rattle.lists.proofs.Calls.{in-refused, in-answered}
@@ -29,23 +29,10 @@ pub record NextOutput (b : Buffer) (n : ℕ) (run other : List ℕ) : Type 0 whe
   pub in-len : b .idx .0 + n ≤ b .len .0
 
 -- ---- next_glyphs
-module _ (capacity n : ℕ) (a : Account ℕ) where
-  next-spoiled : isSpoiled a ≡ true → nextGlyphs capacity n a ≡ refused WrongPhase
+module _ (capacity n : ℕ) (a : Account ℕ) (h : isSpoiled a ≡ false) where
+  next-needs : (size : ℕ) → outLen a + n ≡ size → ltb (length (a .rest)) n ≡ false → hasOutput a ≡ true → nextGlyphs capacity n a ≡ needing capacity size a (accepted (moved n (sized size a))) (accepted (failing a))
   unfolding nextGlyphs refuse_when_else_
-  next-spoiled h = rw h
-
-  module _ (h : isSpoiled a ≡ false) where
-    next-outside : ltb (length (a .rest)) n ≡ true → nextGlyphs capacity n a ≡ refused OutOfRange
-    unfolding nextGlyphs refuse_when_else_
-    next-outside k = rw (h, k)
-
-    next-passes : ltb (length (a .rest)) n ≡ false → hasOutput a ≡ false → nextGlyphs capacity n a ≡ accepted (cursorAt (idx a + n) a)
-    unfolding nextGlyphs refuse_when_else_
-    next-passes k o = rw (h, k, o)
-
-    next-needs : (size : ℕ) → outLen a + n ≡ size → ltb (length (a .rest)) n ≡ false → hasOutput a ≡ true → nextGlyphs capacity n a ≡ needing capacity size a (accepted (moved n (sized size a))) (accepted (failing a))
-    unfolding nextGlyphs refuse_when_else_
-    next-needs size e k o = rw (h, k, o, e)
+  next-needs size e k o = rw (h, k, o, e)
 
 module _ {b : Buffer} {n : ℕ} {run other : List ℕ} (v : NextOutput b n run other) where
   pub next-room : nextGlyphs (capacityOf (length run)) n (accountOf b run other) ≡ needing (capacityOf (length run)) (b .«out_len» .0 + n) (accountOf b run other) (accepted (moved n (sized (b .«out_len» .0 + n) (accountOf b run other)))) (accepted (failing (accountOf b run other)))
