@@ -1,20 +1,17 @@
 -- One word of each glyph, or a number made of its words: f of the infos of a list.
-use mathlib.Core.{Path._≡_, Path.refl, Path.ap, Path._∙_, List.List, List.[], List._∷_, List.map}
+use mathlib.Core.{Path._≡_, Path.refl, Path.ap, Path.sym, Path._∙_, List.List, List.[], List._∷_, List.map}
 use Prim.Native.Nat.{ℕ, zero, suc, _≤_, _<_, zero-le}
 use native.Mathlib.Nat.{le-of-suc-le-suc, not-suc-le-zero}
 use lib.{ListN.take, ListN.drop, ListN.length, ListN.getD}
 use Rattle.records.specs.{Glyphs.Glyph, Glyphs.Info, Glyphs.change, Ranges.infos, Ranges.clusters, Ranges.edit, View.zeroGlyph}
+use Rattle.records.proofs.Renaming.{take-map, drop-map}
 
 module _ {A B : Type 0} (f : A → B) where
   pub map-take : (n : ℕ) (l : List A) → map f (take n l) ≡ take n (map f l)
-  map-take zero l = refl
-  map-take (suc n) [] = refl
-  map-take (suc n) (x ∷ l) = ap {B = List B} (λ r. f x ∷ r) (map-take n l)
+  map-take n l = sym (take-map f n l)
 
   pub map-drop : (n : ℕ) (l : List A) → map f (drop n l) ≡ drop n (map f l)
-  map-drop zero l = refl
-  map-drop (suc n) [] = refl
-  map-drop (suc n) (x ∷ l) = map-drop n l
+  map-drop n l = sym (drop-map f n l)
 
 module _ {G : Type 0} where
   pub infos-take : (n : ℕ) (l : List (Glyph G)) → infos (take n l) ≡ take n (infos l)
