@@ -9,7 +9,7 @@ use Rattle.records.proofs.View.{glyphs-same}
 use Rattle.lists.specs.declared.{Buffer.Buffer, Verdict.Verdict}
 use Rattle.lists.specs.Verdicts.{Sided}
 use Rattle.lists.specs.{Account.readLevel, Account.Account, Account.outputPhase, Account.positionsPhase, Account.spoiledPhase, Account.withGone, Results.refused, Results.accepted, Results.refuse_when_else_, State.shown, State.stateOf, State.accountOf, State.Held, States.reply, States.atPlaces, States.withLimitsOf, Verdicts.leaving, Verdicts.settledBuffer, Verdicts.settled}
-use Rattle.lists.proofs.{Accounts.held-lengths}
+use Rattle.lists.proofs.SoundLaws.{held-lengths}
 use Rattle.edits.specs.declared.{Kept.Kept}
 use Rattle.edits.specs.{Acts.Acts, Charges.DecidedBy, Charges.running, Charges.TakesKeyed, Deleting.deletedEach, Deleting.keptRun, Deleting.deleteGlyphsInplace, MergeActs.mergeLimits, WholeRun.notWhole, Wholes.WholeInput, Wholes.RunRoom}
 use Rattle.edits.specs.Deletes.{DeleteRoom, Deletes, MoveRoom, MovesGlyph, Sifts, keptWith}

@@ -167,3 +167,6 @@ module _ {b : Buffer} {n m : ℕ} {f s : List ℕ} {v : Verdict} {room : Room} (
 pub shifts-ready : (x : Buffer) {y : Buffer} (n m o : ℕ) → y ≡ atPlaces n m o x → n ≤ o → (n ≤ y .idx .0) × (n ≤ y .«out_len» .0)
 unfolding atPlaces
 shifts-ready x n m o e h = rw e (omega arith, h)
+
+-- for the proofs of functions
+pub ruleset back-calls = (backs-spent, backs-goes, shifts-spent, shifts-goes, shifts-ready, over-left, over-size, over-goes, over-fails, over-refused)

@@ -93,3 +93,6 @@ module _ {A : Type 0} where
   pub kept-done : (run run′ other : List A) (s : Bool) (o : ℕ) → (s ≡ false → take o run′ ≡ take o run) → take o (cond s other run′) ≡ take o (cond s other run)
   kept-done run run′ other true o h = refl
   kept-done run run′ other false o h = h refl
+
+-- for the proofs of functions
+pub ruleset carrying = (carried-apart, carried-none, carried-within, returned-apart, returned-none, returned-within, shifted-none, zeroed)

@@ -169,3 +169,6 @@ rising-done {ws₀} {from} {to} {n} {ws} {i} v h =
     let ef : from + i ≡ from = omega arith in
     let en : n - i ≡ n = omega arith in
     rw (et, ef, en) at (v .is)
+
+-- for the proofs of functions
+pub ruleset copying = (copying-none, copying-within, copying-more, copying-room, copying-done, rising-none, rising-more, rising-done)

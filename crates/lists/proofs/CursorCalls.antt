@@ -15,14 +15,15 @@ use Rattle.lists.specs.States.{withLimitsOf, atPlaces}
 use Rattle.lists.specs.Moving.{Carriable, Carried}
 use Rattle.lists.specs.Verdicts.{Leaves, wroteBuffer, liesElsewhere, settled, Decided}
 use Rattle.lists.proofs.Accounts.{output-of, spoiled-of, limits-of, limited-of, idx-of, len-of}
-use Rattle.lists.proofs.SoundLaws.{sound-held, is-sound}
+use Rattle.lists.proofs.SoundLaws.{sound-held, is-sound, soundness}
 use Rattle.lists.proofs.SizeLaws.{fits-within}
 use Rattle.lists.proofs.Simple.{refuse-yes, refuse-no, cursor-of, dropping-of}
 use Rattle.lists.proofs.Inner.{held-limits, few-left, enough-left}
 use Rattle.lists.proofs.SyncLaws.{NextOutput, next-room, next-ready, next-moves}
 use Rattle.lists.proofs.Carrying.{carried-none}
 use Rattle.lists.proofs.Moving.{forward-moves}
-use Rattle.lists.proofs.Decisions.{Lying, near-places, near-limits, near-placed, Refuses, Accepts, accepts, Does, Needs, Rooms, decided-refused}
+use Rattle.lists.proofs.Decisions.{Lying, near-places, near-limits, near-placed, Refuses, Accepts, accepts, Does, Needs, Rooms, decided-refused, decided-accepted, decided-sized, decided-unsound, settles-accepted, settles-refused, settles-unsound}
+use Rattle.records.proofs.Tests.{tested}
 
 -- ---- the first test of many calls
 pub spoiled-refuses : {b : Buffer} {f : List ℕ} (x : ℕ → Account ℕ → Result ℕ) → spoiledPhase (b .phase) ≡ true → Refuses (λ capacity a. refuse WrongPhase when isSpoiled a else x capacity a) b f WrongPhase
@@ -188,3 +189,6 @@ module _ {b : Buffer} {f s : List ℕ} {t : Bool} (w : Soundness b f s t) (h : t
 
   pub out-small : {n : ℕ} → n ≤ b .len .0 - b .idx .0 → b .«out_len» .0 + n < 2 ^ 64
   out-small k = let v = sound-held b f s (is-sound w h) in omega arith
+
+-- for the proofs of functions
+pub ruleset cursor-calls = (soundness, tested, settles-unsound, settles-refused, settles-accepted, decided-unsound, decided-accepted, decided-sized, enter-spoiled, enter-accepts, leave-spoiled, leave-accepts, lig-spoiled, lig-accepts, skip-spoiled, skip-outside, skip-accepts, next-spoiled, next-outside, next-accepts, next-needs, next-does, room-carriable, sound-idx, sound-len, idx-small, out-small)

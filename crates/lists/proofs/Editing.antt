@@ -80,3 +80,6 @@ module _ {h : Info → Info} {s e : ℕ} where
   editing-done {ws₀} {ws} {i} v ge =
       let o : i ≡ e = omega arith in
       rw o at (v .is)
+
+-- for the proofs of functions
+pub ruleset editing = (editing-none, editing-more, editing-done)

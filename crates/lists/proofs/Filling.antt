@@ -78,3 +78,6 @@ module _ {A : Type 0} {see : List ℕ → List A} {v : A} {s e : ℕ} where
   filling-done {ws₀} {ws} {i} f ge =
       let o : i ≡ e = omega (arith, f .high) in
       rw o at (f .is)
+
+-- for the proofs of functions
+pub ruleset filling = (filling-none, filling-more, filling-done)

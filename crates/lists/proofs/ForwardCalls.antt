@@ -91,3 +91,6 @@ module _ {n : ℕ} {b : Buffer} {v : Verdict} {m : ℕ} {j k : Limits} {x : Buff
   pub forwards-goes : {y : Buffer} → t ≡ false → y ≡ atPlaces (b .idx .0 + n) (b .len .0) m x → Leaves y true (Value 1) v → Forwards n b v
   unfolding forwardVerdict
   forwards-goes h ey q = let paid = forths.paid-is (b .«out_len» .0 + n) n (b .limits) em ej ek in record { is = rw (forths.negative-is _ paid et h) (q .is ∙ ap (λ (u : Buffer). leaving u true (Value 1)) (ey ∙ (ap (λ (i : ℕ). atPlaces (b .idx .0 + n) (b .len .0) i x) em ∙ ap (atPlaces (b .idx .0 + n) (b .len .0) (b .«out_len» .0 + n)) (ex ∙ ap (λ (l : Limits). withLimitsOf l b) paid)))) }
+
+-- for the proofs of functions
+pub ruleset forward-calls = (moved-forth, moved-back, back-carriable, forward-size, forward-goes, forward-fails, forward-over, forwards-spent, forwards-goes)

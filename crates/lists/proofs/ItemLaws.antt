@@ -12,7 +12,7 @@ use Rattle.lists.specs.Account.{Account, outputPhase, positionsPhase, sp
 use Rattle.lists.specs.State.{shown, goneOf, accountOf, account, sound, Soundness, Held}
 use Rattle.lists.specs.Items.{items}
 use Rattle.lists.proofs.Accounts.{positions-of, length-shown, out-of, rest-of, gone-in, passed-of, gone-spoiled, places-in, gone-within, input-length}
-use Rattle.lists.proofs.SoundLaws.{held-first, sound-held, is-sound, is-unsound}
+use Rattle.lists.proofs.SoundLaws.{held-first, sound-held, is-sound, is-unsound, soundness}
 use Rattle.lists.proofs.Calls.{account-first, account-second}
 use Rattle.lists.proofs.Outputs.{gone-without}
 use Rattle.lists.proofs.Simple.{input-of, on-account}
@@ -243,3 +243,6 @@ module _ {b : Buffer} {f s : List ℕ} {t : Bool} (w : Soundness b f s t) where
 
         pub count-without : p ≡ false → b .«out_len» .0 + (b .len .0 - gone) ≡ cond (sound b f s) (length (items (account b f s))) 0
         count-without q = rw (is-sound w h, e) (sym (counted-plain b f s (is-sound w h) (sym ep ∙ q)))
+
+-- for the proofs of functions
+pub ruleset showing = (soundness, apart-room, done-apart, done-within, item-after, passed-at, rest-at, placed-at, place-at, place-past, item-first, item-second, none-unsound, gone-below, twice-fits, both-fit, count-with-positions, count-without, places-in)

@@ -48,3 +48,6 @@ module _ {l : List (Glyph ℕ)} {s e : ℕ} where
   joining-done {x} {i} v o =
       let k : i ≡ s = omega arith in
       rw k at (v .is)
+
+-- for the proofs of functions
+pub ruleset joining = (joining-none, joining-more, joining-done)

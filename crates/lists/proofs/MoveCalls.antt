@@ -9,11 +9,12 @@ use Rattle.lists.specs.State.{sound}
 use Rattle.lists.specs.States.{atPlaces}
 use Rattle.lists.specs.Moving.{SyncOutput, Opened, Backs, MovesForward, MovesBack, MovesTo}
 use Rattle.lists.specs.Verdicts.{Leaves}
-use Rattle.lists.proofs.SoundLaws.{sound-held}
+use Rattle.lists.proofs.SoundLaws.{sound-held, soundness}
 use Rattle.lists.proofs.ForwardLaws as forths
 use Rattle.lists.proofs.BackLaws as backs
 use Rattle.lists.proofs.Decisions.{Lying, near-same, near-places, decided-unsound, decided-accepted, decided-by}
 use Rattle.lists.proofs.BackCalls.{back-decided}
+use Rattle.records.proofs.Tests.{tested}
 
 -- ---- the call, by its tests
 pub opens : {b : Buffer} {f s : List ℕ} → sound b f s ≡ true → outputPhase (b .phase) ≡ true → Opened b f s
@@ -64,3 +65,6 @@ module _ {b : Buffer} {f s : List ℕ} {v : Verdict} {i : ℕ} (w : Opened b f s
 
       pub move-back : i < b .«out_len» .0 → b .«out_len» .0 - i ≤ b .idx .0 → Backs (b .«out_len» .0 - i) false b v → MovesTo i b f s v
       move-back p q e = move-backward p (back-decided (record { is-sound = w .is-sound; output = w .output; in-out = omega arith; in-idx = q }) e)
+
+-- for the proofs of functions
+pub ruleset move-calls = (soundness, tested, opens, move-unsound, move-spoiled, move-outside, move-places, opened-left, opened-all, move-over, move-failed, move-stays, move-forward, move-backward, move-back)

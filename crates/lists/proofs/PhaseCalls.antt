@@ -16,7 +16,7 @@ use Rattle.lists.specs.Contract.{Meets, MeetsIn}
 use Rattle.lists.specs.Moving.{Carriable, Carried, Zeroed}
 use Rattle.lists.specs.Verdicts.{leaving, Leaves, Sized, bySize, wroteBuffer, failedBuffer, liesElsewhere, freshVerdict, clearVerdict, Freshens, Clears, settledBuffer, settled, settledAs, synced, Sided, Decided}
 use Rattle.lists.proofs.Accounts.{output-of, spoiled-of, places-in}
-use Rattle.lists.proofs.SoundLaws.{sound-held}
+use Rattle.lists.proofs.SoundLaws.{sound-held, soundness}
 use Rattle.lists.proofs.Calls.{shell-unsound, shell-accepted, in-accepted}
 use Rattle.lists.proofs.Simple.{refuse-yes, refuse-no, fresh-account, fresh-held, opened-of, opened-held}
 use Rattle.lists.proofs.Positioning.{Placeable, place-moves}
@@ -25,6 +25,7 @@ use Rattle.lists.proofs.Inner.{move-accepted}
 use Rattle.lists.proofs.SyncLaws.{Syncable, sync-in-none, sync-in-spoils, sync-over, sync-gives-up, sync-ready, sync-moves}
 use Rattle.lists.proofs.Decisions.{Lying, Refuses, leaves-is, near-same, settled-is, acts-is, meets-still, meets-refused, decided-still, decided-acts, room-of, end-acted, end-still}
 use Rattle.lists.proofs.CursorCalls.{stands, room-carriable}
+use Rattle.records.proofs.Tests.{tested}
 
 -- ---- 00
 module _ {wants : ℕ} {b : Buffer} {f s : List ℕ} {v : Verdict} where
@@ -196,3 +197,6 @@ module _ (b : Buffer) (v : Verdict) {r : Reply} where
   pub synced-refused : {why : Refusal} → v .answer ≡ No why → r ≡ reply b (No why) → r ≡ synced b v
   unfolding syncedAs
   synced-refused k er = er ∙ sym (by-answer b v k)
+
+-- for the proofs of functions
+pub ruleset phase-calls = (soundness, tested, fresh-unsound, fresh-bad, fresh-ahead, fresh-meets, clear-unsound, clear-output, clear-spoiled, clear-ahead, clear-output-meets, clear-first, clear-second, positions-acted, positions-still, sync-unsound, sync-phase, sync-spoils, sync-decided, synced-done, synced-value, synced-refused)

@@ -167,3 +167,6 @@ module _ {p : ℕ → Bool} {cs : List ℕ} {f s : ℕ} where
 
   pub behind-done : {i : ℕ} → Behind p cs f s i → i ≤ f → i ≡ s - tails p (slice f s cs)
   behind-done {i} v o = omega (arith, v .is, tails-none p f i cs o)
+
+-- for the proofs of functions
+pub ruleset running = (lowest-none, lowest-less, lowest-stays, lowest-done, keyed-none, keyed-more, keyed-stop, keyed-done, ahead-none, ahead-more, ahead-stop, ahead-done, behind-none, behind-more, behind-stop, behind-done, length-clusters, eq-eqb, ne-eqb)

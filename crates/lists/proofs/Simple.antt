@@ -223,3 +223,6 @@ module _ {b : Buffer} {f s : List ℕ} {t : Bool} (w : Soundness b f s t) where
 
     pub out-first : {l : List (Glyph ℕ)} → not (Bool·beq (b .swapped) (b .«have_separate_output»)) ≡ false → l ≡ take (b .«out_len» .0) (glyphs f) → l ≡ cond (sound b f s) (account b f s .done) []
     out-first k e = rw (is-sound w h) (e ∙ (ap (take (b .«out_len» .0)) (flags-first (b .swapped) (b .«have_separate_output») (glyphs f) (glyphs s) k) ∙ sym (done-is b f s)))
+
+-- for the proofs of functions
+pub ruleset out-laws = (out-first-room, out-second-room, out-unsound, out-first, out-second)

@@ -167,3 +167,7 @@ module _ {b : Buffer} {f s : List ℕ} {t : Bool} (w : Soundness b f s t) where
 
   pub held-second : t ≡ true → Held b s f
   held-second h = held-turned b f s (held-first h)
+
+-- for the proofs of functions
+pub ruleset soundness = (is-sound, is-unsound, held-first, held-second)
+pub ruleset ordering = (order-idx, order-len, order-all, order-most, tested-whole, tested-lent)

@@ -147,3 +147,6 @@ module _ {A : Type 0} where
   -- two loads and two stores
   pub exchange-is : (l₀ l₁ : List A) {l₂ : List A} {x y a b : A} (i j : ℕ) → l₁ ≡ set l₀ i y → l₂ ≡ set l₁ j x → x ≡ a → y ≡ b → l₂ ≡ set (set l₀ i b) j a
   exchange-is l₀ l₁ i j e₁ e₂ ea eb = e₂ ∙ rw (e₁, ea, eb)
+
+-- for the proofs of functions
+pub ruleset turning = (turning-none, turning-done, turning-first, turning-last, halved-none, halved-room, halved-more, halved-done, halved-last)

@@ -2,7 +2,7 @@
 use Prim.Native.Nat.{_-_}
 use native.Mathlib.Omega.{arith}
 use Rattle.records.proofs.View.{glyphs-fit}
-use Rattle.lists.proofs.Copying.{Copying, copying-within, copying-down, copying-room, copying-done}
+use Rattle.lists.proofs.Copying.{Copying, copying-within, copying-down, copying-room, copying-done, copying}
 use borrow.Author.Needs.{needs}
 use Rattle.lists.proofs.copies.copy_down.Statement.{statement}
 use Rattle.lists.proofs.copies.copy_down.Tie as tie
@@ -14,13 +14,13 @@ abbrev μ-loop : tie.MeasureT-loop
 μ-loop ws₀ from to n i₀ ws i = n - i
 
 loop-holds : tie.Need-loop-holds Inv-loop μ-loop
-loop-holds c = search copying-within
+loop-holds c = search copying
 
 add-get : tie.Need-add-get Inv-loop μ-loop
 add-get c = let start : tie.Start Inv-loop μ-loop = search in omega (arith, glyphs-fit (start .args .ws .now))
 
 get-requires : tie.Need-get-requires Inv-loop μ-loop
-get-requires c κs = search copying-room
+get-requires c κs = search copying
 
 add-put : tie.Need-add-put Inv-loop μ-loop
 add-put c = let start : tie.Start Inv-loop μ-loop = search in omega (arith, glyphs-fit (start .args .ws .now))
@@ -41,7 +41,7 @@ same-length : tie.Need-same-length Inv-loop μ-loop
 same-length c = search needs
 
 returns : tie.Need-returns Inv-loop μ-loop
-returns c = search copying-done
+returns c = search copying
 
 pub copy-down-spec : {M : Type 1} → statement M
 copy-down-spec = tie.close (tie.spec Inv-loop μ-loop loop-holds add-get get-requires add-put put-requires add-i loop-less loop-again same-length returns)

@@ -1,7 +1,7 @@
 -- The glyphs from i on are copied.
 use native.Mathlib.Omega.{arith}
 use Rattle.records.proofs.View.{glyphs-fit}
-use Rattle.lists.proofs.Copying.{Rising, rising-none, rising-more, rising-done}
+use Rattle.lists.proofs.Copying.{Rising, rising-none, rising-more, rising-done, copying}
 use borrow.Author.Needs.{needs}
 use Rattle.lists.proofs.copies.copy_up.Statement.{statement}
 use Rattle.lists.proofs.copies.copy_up.Tie as tie
@@ -13,7 +13,7 @@ abbrev μ-loop : tie.MeasureT-loop
 μ-loop ws₀ from to n i₀ ws i = i
 
 loop-holds : tie.Need-loop-holds Inv-loop μ-loop
-loop-holds c = search rising-none
+loop-holds c = search copying
 
 sub-i : tie.Need-sub-i Inv-loop μ-loop
 sub-i c = omega arith
@@ -34,13 +34,13 @@ loop-less : tie.Need-loop-less Inv-loop μ-loop
 loop-less c = omega arith
 
 loop-again : tie.Need-loop-again Inv-loop μ-loop
-loop-again c = search rising-more
+loop-again c = search copying
 
 same-length : tie.Need-same-length Inv-loop μ-loop
 same-length c = search needs
 
 returns : tie.Need-returns Inv-loop μ-loop
-returns c = search rising-done
+returns c = search copying
 
 pub copy-up-spec : {M : Type 1} → statement M
 copy-up-spec = tie.close (tie.spec Inv-loop μ-loop loop-holds sub-i add-get get-requires add-put put-requires loop-less loop-again same-length returns)

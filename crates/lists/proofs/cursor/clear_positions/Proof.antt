@@ -1,12 +1,12 @@
 use mathlib.Core.Logic.{⊎-elim}
 use Rattle.lists.proofs.Decisions.{kept-length}
-use Rattle.lists.proofs.PhaseCalls.{clear-first, clear-second, positions-acted, positions-still}
+use Rattle.lists.proofs.PhaseCalls.{clear-first, clear-second, positions-acted, positions-still, phase-calls}
 use borrow.Author.Needs.{needs}
 use Rattle.lists.proofs.cursor.clear_positions.Statement.{statement}
 use Rattle.lists.proofs.cursor.clear_positions.Tie as tie
 
 zero-positions-by-requires : tie.Need-zero-positions-by-requires
-zero-positions-by-requires c κs = search (clear-first, clear-second)
+zero-positions-by-requires c κs = search phase-calls
 
 same-length : tie.Need-same-length
 same-length c = let end : tie.Joined1 = search in ⊎-elim (λ w. search (kept-length, needs)) (λ w. search (kept-length, needs)) (end .if1 .came)

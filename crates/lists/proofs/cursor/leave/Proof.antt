@@ -1,10 +1,10 @@
-use Rattle.lists.proofs.Decisions.{ends}
+use Rattle.lists.proofs.Decisions.{ends, settling}
 use borrow.Author.Needs.{needs}
 use Rattle.lists.proofs.cursor.leave.Statement.{statement}
 use Rattle.lists.proofs.cursor.leave.Tie as tie
 
 returns : tie.Need-returns
-returns c = search ends
+returns c = search settling
 
 pub leave-spec : {M : Type 1} → statement M
 leave-spec = tie.close (tie.spec (search needs) (search needs) returns)

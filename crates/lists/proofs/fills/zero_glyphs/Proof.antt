@@ -3,7 +3,7 @@ use Prim.Native.Nat.{_-_}
 use native.Mathlib.Omega.{arith}
 use Rattle.records.specs.Glyphs.{blank}
 use Rattle.records.specs.View.{glyphs}
-use Rattle.lists.proofs.Filling.{Filling, filling-none, filling-more, filling-done}
+use Rattle.lists.proofs.Filling.{Filling, filling-none, filling-more, filling-done, filling}
 use borrow.Author.Needs.{needs}
 use Rattle.lists.proofs.fills.zero_glyphs.Statement.{statement}
 use Rattle.lists.proofs.fills.zero_glyphs.Tie as tie
@@ -30,7 +30,7 @@ loop-less : tie.Need-loop-less Inv-loop μ-loop
 loop-less c = omega arith
 
 loop-again : tie.Need-loop-again Inv-loop μ-loop
-loop-again c = search (filling-more, needs)
+loop-again c = search (filling, needs)
 
 same-length : tie.Need-same-length Inv-loop μ-loop
 same-length c = search needs

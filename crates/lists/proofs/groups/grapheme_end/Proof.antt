@@ -2,7 +2,7 @@
 use Prim.Native.Nat.{_-_}
 use native.Mathlib.Omega.{arith}
 use Rattle.records.specs.View.{glyphs}
-use Rattle.lists.proofs.Runs.{Keyed, keyed-none, keyed-more, keyed-stop, keyed-done}
+use Rattle.lists.proofs.Runs.{Keyed, keyed-none, keyed-more, keyed-stop, keyed-done, running}
 use Rattle.lists.proofs.groups.grapheme_end.Statement.{statement}
 use Rattle.lists.proofs.groups.grapheme_end.Tie as tie
 
@@ -16,13 +16,13 @@ add-i : tie.Need-add-i Inv-loop μ-loop
 add-i c = omega arith
 
 loop-holds : tie.Need-loop-holds Inv-loop μ-loop
-loop-holds c = search keyed-none
+loop-holds c = search running
 
 key-at-requires : tie.Need-key-at-requires Inv-loop μ-loop
 key-at-requires c κs = omega arith
 
 returns : tie.Need-returns Inv-loop μ-loop
-returns c = search keyed-stop
+returns c = search running
 
 add-i-2 : tie.Need-add-i-2 Inv-loop μ-loop
 add-i-2 c = omega arith
@@ -31,10 +31,10 @@ loop-less : tie.Need-loop-less Inv-loop μ-loop
 loop-less c = omega arith
 
 loop-again : tie.Need-loop-again Inv-loop μ-loop
-loop-again c = search keyed-more
+loop-again c = search running
 
 returns-2 : tie.Need-returns-2 Inv-loop μ-loop
-returns-2 c = search keyed-done
+returns-2 c = search running
 
 pub grapheme-end-spec : {M : Type 1} → statement M
 grapheme-end-spec = tie.close (tie.spec Inv-loop μ-loop add-i loop-holds key-at-requires returns add-i-2 loop-less loop-again returns-2)

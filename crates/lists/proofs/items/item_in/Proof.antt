@@ -1,4 +1,4 @@
-use Rattle.lists.proofs.ItemLaws.{apart-room, done-apart, done-within, item-after}
+use Rattle.lists.proofs.ItemLaws.{apart-room, done-apart, done-within, item-after, showing}
 use borrow.Author.Needs.{needs}
 use Rattle.lists.proofs.items.item_in.Statement.{statement}
 use Rattle.lists.proofs.items.item_in.Tie as tie
@@ -7,7 +7,7 @@ returns : tie.Need-returns
 returns c = item-after _ _ _ (search) _ (search) (c .input-item .ensures)
 
 get-requires : tie.Need-get-requires
-get-requires c κs = search (apart-room, needs)
+get-requires c κs = search (showing, needs)
 
 returns-2 : tie.Need-returns-2
 returns-2 c = done-apart _ _ _ (search) _ (search) (search) (c .get .ensures)

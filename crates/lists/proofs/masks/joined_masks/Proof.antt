@@ -1,7 +1,7 @@
 -- What is joined so far is that of the masks from i on.
 use native.Mathlib.Omega.{arith}
 use Rattle.records.specs.View.{glyphs}
-use Rattle.lists.proofs.Joining.{Joining, joining-none, joining-more, joining-done}
+use Rattle.lists.proofs.Joining.{Joining, joining-none, joining-more, joining-done, joining}
 use Rattle.lists.proofs.masks.joined_masks.Statement.{statement}
 use Rattle.lists.proofs.masks.joined_masks.Tie as tie
 
@@ -12,7 +12,7 @@ abbrev μ-loop : tie.MeasureT-loop
 μ-loop ws s e x₀ i₀ x i = i
 
 loop-holds : tie.Need-loop-holds Inv-loop μ-loop
-loop-holds c = search joining-none
+loop-holds c = search joining
 
 sub-i : tie.Need-sub-i Inv-loop μ-loop
 sub-i c = omega arith
@@ -24,10 +24,10 @@ loop-less : tie.Need-loop-less Inv-loop μ-loop
 loop-less c = omega arith
 
 loop-again : tie.Need-loop-again Inv-loop μ-loop
-loop-again c = search joining-more
+loop-again c = search joining
 
 returns : tie.Need-returns Inv-loop μ-loop
-returns c = search joining-done
+returns c = search joining
 
 pub joined-masks-spec : {M : Type 1} → statement M
 joined-masks-spec = tie.close (tie.spec Inv-loop μ-loop loop-holds sub-i mask-at-requires loop-less loop-again returns)

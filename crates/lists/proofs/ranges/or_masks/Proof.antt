@@ -2,7 +2,7 @@
 use Prim.Native.Nat.{_-_}
 use native.Mathlib.Omega.{arith}
 use Rattle.records.specs.Glyphs.{flagged}
-use Rattle.lists.proofs.Editing.{Editing, editing-none, editing-more, editing-done}
+use Rattle.lists.proofs.Editing.{Editing, editing-none, editing-more, editing-done, editing}
 use borrow.Author.Needs.{needs}
 use Rattle.lists.proofs.ranges.or_masks.Statement.{statement}
 use Rattle.lists.proofs.ranges.or_masks.Tie as tie
@@ -26,7 +26,7 @@ loop-less : tie.Need-loop-less Inv-loop μ-loop
 loop-less c = omega arith
 
 loop-again : tie.Need-loop-again Inv-loop μ-loop
-loop-again c = search (editing-more, needs)
+loop-again c = search (editing, needs)
 
 same-length : tie.Need-same-length Inv-loop μ-loop
 same-length c = search needs

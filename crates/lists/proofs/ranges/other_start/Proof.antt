@@ -5,7 +5,7 @@ use borrow.Author.Tests.{eq-eqb, ne-eqb}
 use Rattle.records.specs.Ranges.{clusters, isnt}
 use Rattle.records.specs.View.{glyphs}
 use Rattle.records.proofs.View.{length-clusters}
-use Rattle.lists.proofs.Runs.{Behind, behind-none, behind-more, behind-stop, behind-done}
+use Rattle.lists.proofs.Runs.{Behind, behind-none, behind-more, behind-stop, behind-done, running}
 use borrow.Author.Needs.{needs}
 use Rattle.lists.proofs.ranges.other_start.Statement.{statement}
 use Rattle.lists.proofs.ranges.other_start.Tie as tie
@@ -26,7 +26,7 @@ cluster-at-requires : tie.Need-cluster-at-requires Inv-loop μ-loop
 cluster-at-requires c κs = omega arith
 
 returns : tie.Need-returns Inv-loop μ-loop
-returns c = search (behind-stop, length-clusters, glyphs, not, eq-eqb, needs)
+returns c = search (running, needs)
 
 sub-i : tie.Need-sub-i Inv-loop μ-loop
 sub-i c = omega arith
@@ -35,7 +35,7 @@ loop-less : tie.Need-loop-less Inv-loop μ-loop
 loop-less c = omega arith
 
 loop-again : tie.Need-loop-again Inv-loop μ-loop
-loop-again c = search (behind-more, length-clusters, glyphs, not, ne-eqb, needs)
+loop-again c = search (running, needs)
 
 returns-2 : tie.Need-returns-2 Inv-loop μ-loop
 returns-2 c = behind-done (search) (c .loop-test .left)

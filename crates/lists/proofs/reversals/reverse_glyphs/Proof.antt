@@ -2,7 +2,7 @@ use mathlib.Core.Path.{_≡_}
 use lib.ListN.{length}
 use Rattle.records.specs.View.{glyphs, zeroGlyph}
 use Rattle.records.proofs.View.{glyphs-fit}
-use Rattle.lists.proofs.Turns.{Turning, turning-none, turning-more, turning-done, turning-first, turning-last, Halved, halved-none, halved-room, halved-more, halved-done, halved-last}
+use Rattle.lists.proofs.Turns.{Turning, turning-none, turning-more, turning-done, turning-first, turning-last, Halved, halved-none, halved-room, halved-more, halved-done, halved-last, turning}
 use native.Mathlib.Omega.{arith}
 use borrow.Author.Needs.{needs}
 use Rattle.lists.proofs.reversals.reverse_glyphs.Statement.{statement}
@@ -18,13 +18,13 @@ sub-k : tie.Need-sub-k Inv-loop μ-loop
 sub-k c = search needs
 
 loop-holds : tie.Need-loop-holds Inv-loop μ-loop
-loop-holds c = search (turning-none, halved-none)
+loop-holds c = search turning
 
 sub-j : tie.Need-sub-j Inv-loop μ-loop
-sub-j c = search halved-last
+sub-j c = search turning
 
 swap-glyphs-requires : tie.Need-swap-glyphs-requires Inv-loop μ-loop
-swap-glyphs-requires c κs = search (turning-first, turning-last)
+swap-glyphs-requires c κs = search turning
 
 add-i : tie.Need-add-i Inv-loop μ-loop
 add-i c = let at : tie.At-loop Inv-loop μ-loop = search in omega (arith, at .loop .inv .0 .fits, at .loop .inv .2 .most, glyphs-fit (at .loop .ws))
@@ -42,7 +42,7 @@ same-length : tie.Need-same-length Inv-loop μ-loop
 same-length c = search needs
 
 returns : tie.Need-returns Inv-loop μ-loop
-returns c = search (turning-done, halved-done)
+returns c = search turning
 
 pub reverse-glyphs-spec : {M : Type 1} → statement M
 reverse-glyphs-spec = tie.close (tie.spec Inv-loop μ-loop sub-k loop-holds sub-j swap-glyphs-requires add-i sub-k-2 loop-less loop-again same-length returns)
