@@ -280,5 +280,5 @@ module _ (b after : Buffer) (v : Verdict) {r : Reply} where
   settled-still e h = e ∙ sym (ap (λ (t : Bool). cond t (reply after Done) (settled b v)) h)
 
 -- for the proofs of functions
-pub ruleset settling = (ends, sided-first, sided-second, sized-fits, sized-fails, sized-over, settled-within, settled-apart, settled-acts, settled-still, leaves-failed, leaves-as)
+pub ruleset settling = (ends, sided-first, sided-second, sized-fits, sized-fails, sized-over, settled-acts, settled-still, leaves-failed, leaves-as)
 pub ruleset ending = (end-acted, end-still, kept-length)
