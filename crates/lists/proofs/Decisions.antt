@@ -281,4 +281,5 @@ module _ (b after : Buffer) (v : Verdict) {r : Reply} where
 
 -- for the proofs of functions
 pub ruleset settling = (ends, sided-first, sided-second, sized-fits, sized-fails, sized-over, settled-acts, settled-still, leaves-failed, leaves-as)
+
 pub ruleset ending = (end-acted, end-still, kept-length)

@@ -170,4 +170,5 @@ module _ {b : Buffer} {f s : List ℕ} {t : Bool} (w : Soundness b f s t) where
 
 -- for the proofs of functions
 pub ruleset soundness = (is-sound, is-unsound, held-first, held-second)
+
 pub ruleset ordering = (order-idx, order-len, order-all, order-most, tested-whole, tested-lent)

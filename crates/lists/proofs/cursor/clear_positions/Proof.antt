@@ -1,12 +1,9 @@
 use mathlib.Core.Logic.{⊎-elim}
 use Rattle.lists.proofs.Decisions.{kept-length}
-use Rattle.lists.proofs.PhaseCalls.{clear-first, clear-second, positions-acted, positions-still, phase-calls}
+use Rattle.lists.proofs.PhaseCalls.{positions-acted, positions-still, phase-calls}
 use borrow.Author.Needs.{needs}
 use Rattle.lists.proofs.cursor.clear_positions.Statement.{statement}
 use Rattle.lists.proofs.cursor.clear_positions.Tie as tie
-
-zero-positions-by-requires : tie.Need-zero-positions-by-requires
-zero-positions-by-requires c κs = search phase-calls
 
 same-length : tie.Need-same-length
 same-length c = let end : tie.Joined1 = search in ⊎-elim (λ w. search (kept-length, needs)) (λ w. search (kept-length, needs)) (end .if1 .came)
@@ -18,4 +15,4 @@ returns : tie.Need-returns
 returns c = let end : tie.Joined1 = search in ⊎-elim (λ w. search positions-acted) (λ w. search positions-still) (end .if1 .came)
 
 pub clear-positions-spec : {M : Type 1} → statement M
-clear-positions-spec = tie.close (tie.spec (search needs) zero-positions-by-requires (search needs) (search needs) same-length same-length-2 returns)
+clear-positions-spec = tie.close (tie.spec (search needs) (λ c κs. search phase-calls) (search needs) (search needs) same-length same-length-2 returns)
