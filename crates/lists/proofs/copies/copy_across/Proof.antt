@@ -2,7 +2,7 @@
 use Prim.Native.Nat.{_-_}
 use native.Mathlib.Omega.{arith}
 use Rattle.records.proofs.View.{glyphs-fit}
-use Rattle.lists.proofs.Copying.{Copying, copying-none, copying-more, copying-done, copying}
+use Rattle.lists.proofs.Copying.{Copying, copying}
 use borrow.Author.Needs.{needs}
 use Rattle.lists.proofs.copies.copy_across.Statement.{statement}
 use Rattle.lists.proofs.copies.copy_across.Tie as tie

@@ -1,7 +1,7 @@
 -- The glyphs from i on are copied.
 use native.Mathlib.Omega.{arith}
 use Rattle.records.proofs.View.{glyphs-fit}
-use Rattle.lists.proofs.Copying.{Rising, rising-none, rising-more, rising-done, copying}
+use Rattle.lists.proofs.Copying.{Rising, copying}
 use borrow.Author.Needs.{needs}
 use Rattle.lists.proofs.copies.copy_up.Statement.{statement}
 use Rattle.lists.proofs.copies.copy_up.Tie as tie

@@ -2,7 +2,7 @@
 use Prim.Native.Nat.{_-_}
 use native.Mathlib.Omega.{arith}
 use Rattle.records.specs.View.{glyphs}
-use Rattle.lists.proofs.Runs.{Keyed, keyed-none, keyed-more, keyed-stop, keyed-done, running}
+use Rattle.lists.proofs.Runs.{Keyed, running}
 use Rattle.lists.proofs.groups.grapheme_end.Statement.{statement}
 use Rattle.lists.proofs.groups.grapheme_end.Tie as tie
 

@@ -1,7 +1,7 @@
 -- What is joined so far is that of the masks from i on.
 use native.Mathlib.Omega.{arith}
 use Rattle.records.specs.View.{glyphs}
-use Rattle.lists.proofs.Joining.{Joining, joining-none, joining-more, joining-done, joining}
+use Rattle.lists.proofs.Joining.{Joining, joining}
 use Rattle.lists.proofs.masks.joined_masks.Statement.{statement}
 use Rattle.lists.proofs.masks.joined_masks.Tie as tie
 

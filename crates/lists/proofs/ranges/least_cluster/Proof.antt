@@ -1,7 +1,7 @@
 -- What is found so far is the least from i on.
 use native.Mathlib.Omega.{arith}
 use Rattle.records.specs.View.{glyphs}
-use Rattle.lists.proofs.Runs.{Lowest, lowest-none, lowest-less, lowest-stays, lowest-done, running}
+use Rattle.lists.proofs.Runs.{Lowest, running}
 use Rattle.lists.proofs.ranges.least_cluster.Statement.{statement}
 use Rattle.lists.proofs.ranges.least_cluster.Tie as tie
 

@@ -2,7 +2,7 @@
 use Prim.Native.Nat.{_-_}
 use native.Mathlib.Omega.{arith}
 use Rattle.records.specs.Glyphs.{setCluster}
-use Rattle.lists.proofs.Editing.{Editing, editing-none, editing-more, editing-done, editing}
+use Rattle.lists.proofs.Editing.{Editing, editing}
 use borrow.Author.Needs.{needs}
 use Rattle.lists.proofs.ranges.set_clusters.Statement.{statement}
 use Rattle.lists.proofs.ranges.set_clusters.Tie as tie
@@ -14,7 +14,7 @@ abbrev μ-loop : tie.MeasureT-loop
 μ-loop ws₀ s e cluster mask i₀ ws i = e - i
 
 loop-holds : tie.Need-loop-holds Inv-loop μ-loop
-loop-holds c = editing-none (search) (search)
+loop-holds c = search (editing, needs)
 
 set-cluster-requires : tie.Need-set-cluster-requires Inv-loop μ-loop
 set-cluster-requires c κs = omega arith
@@ -32,7 +32,7 @@ same-length : tie.Need-same-length Inv-loop μ-loop
 same-length c = search needs
 
 returns : tie.Need-returns Inv-loop μ-loop
-returns c = editing-done (search) (c .loop-test .left)
+returns c = search (editing, needs)
 
 pub set-clusters-spec : {M : Type 1} → statement M
 set-clusters-spec = tie.close (tie.spec Inv-loop μ-loop loop-holds set-cluster-requires add-i loop-less loop-again same-length returns)

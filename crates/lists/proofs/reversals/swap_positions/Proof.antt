@@ -1,4 +1,3 @@
-use Rattle.records.specs.View.{placements}
 use Rattle.records.proofs.View.{placements-same}
 use Rattle.lists.proofs.Turns.{exchange-is}
 use borrow.Author.Needs.{needs}
@@ -9,7 +8,7 @@ put-requires-2 : tie.Need-put-requires-2
 put-requires-2 c κs = search (placements-same, needs)
 
 returns : tie.Need-returns
-returns c = search (exchange-is, placements, needs)
+returns c = search (exchange-is, needs)
 
 pub swap-positions-spec : {M : Type 1} → statement M
 swap-positions-spec = tie.close (tie.spec (search needs) (search needs) (search needs) put-requires-2 (search needs) returns)
