@@ -2,8 +2,9 @@
 use Prim.Native.Nat.{_-_}
 use native.Mathlib.Omega.{arith}
 use lib.ListN.{length}
-use Rattle.commands.proofs.RunLaws.{Running, running-none, running-more, running-done, running-fits, running-less}
+use Rattle.commands.proofs.RunLaws.{Running, running-none, running-more, running-done}
 use borrow.Author.Needs.{needs}
+use Rattle.commands.proofs.RunLaws.{running-fits, running-less}
 use Rattle.exam.proofs.play.Statement.{statement}
 use Rattle.exam.proofs.play.Tie as tie
 
