@@ -56,3 +56,6 @@ module _ {at n : ℕ} {w : Info} {gs : List ℕ} where
   putting-done {ws₀} {ws} {i} v h =
       let e : i ≡ n = omega arith in
       rw e at (v .is)
+
+-- for the proofs of functions
+pub ruleset putting = (putting-none, putting-more, putting-done)

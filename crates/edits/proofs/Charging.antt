@@ -8,6 +8,7 @@ use Rattle.lists.specs.declared.{Buffer.Buffer, Reply.Reply, Verdict.Verdict}
 use Rattle.lists.specs.{Account.Account, Contract.Meets, Contract.MeetsIn, Results.Result, Results.refused, State.sound, State.Held, States.reply, States.withLimitsOf, Verdicts.leaving, Verdicts.Leaves, Verdicts.settledBuffer, Verdicts.settled, Verdicts.Sided}
 use Rattle.lists.specs.States.{atPlaces}
 use Rattle.lists.proofs.Decisions.{Lying, Refuses, acts-is, leaves-is, settles-unsound, settles-refused, meets-sided}
+use Rattle.lists.proofs.SoundLaws.{soundness}
 use Rattle.edits.specs.{Acts.Acts, WholeRun.notWhole, Wholes.WholeInput, Wholes.RunRoom, Wholes.RunOf, Charges.leftWith, Charges.DecidedBy, Charges.running, Charges.Charges, Charges.keyedVerdict, Charges.TakesKeyed}
 use Rattle.edits.proofs.WholeInputs.{wholeTest, not-not-whole, whole-lengths}
 use Rattle.edits.proofs.WholeCalls.{OnWhole, whole-refuses, lying-whole, sound-whole, whole-room, whole-run}
@@ -65,9 +66,9 @@ module _ {R : Type 0} {amend : R → Verdict → Verdict} {call : ℕ → Accoun
   by-still ew t ef es = rw (er, ew, ef, es) (d .still t)
 
 -- a verdict that serves any operands: which ones, the call says
-pub ending : {R : Type 0} {amend : R → Verdict → Verdict} {call : ℕ → Account ℕ → Result ℕ} {b : Buffer} {f s f′ s′ : List ℕ} {v : Verdict} {r : Reply} {Ask : Type 0} {Act : R → (run other run′ other′ : List ℕ) → Type 0}
+pub serving-by : {R : Type 0} {amend : R → Verdict → Verdict} {call : ℕ → Account ℕ → Result ℕ} {b : Buffer} {f s f′ s′ : List ℕ} {v : Verdict} {r : Reply} {Ask : Type 0} {Act : R → (run other run′ other′ : List ℕ) → Type 0}
     → DecidedBy R amend call b f s v Ask Act → (DecidedBy R amend call b f s v Ask Act → Meets call b f s r f′ s′) → Meets call b f s r f′ s′
-ending d k = k d
+serving-by d k = k d
 
 -- ---- 1E, 21, 22: the verdict that they share
 module _ {slot : ℕ} {b : Buffer} {f s : List ℕ} {v : Verdict} where
@@ -122,3 +123,8 @@ module _ {slot : ℕ} {b : Buffer} {f s : List ℕ} {v : Verdict} (w : TakesKeye
 
   pub keyed-run : RunOf (b .phase) (b .len .0) f s
   keyed-run = whole-run keyed-whole
+
+-- for the proofs of functions
+pub ruleset charging = (soundness, keyed-unsound, keyed-not, keyed-bad, keyed-ahead, keyed-room, keyed-run)
+
+pub ruleset ending-by = (by-acted, by-still)

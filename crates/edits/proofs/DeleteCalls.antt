@@ -10,6 +10,8 @@ use Rattle.lists.specs.declared.{Buffer.Buffer, Verdict.Verdict}
 use Rattle.lists.specs.{Account.Account, Account.readLevel, Account.outputPhase, Account.hasOutput, Cursor.dropping, Results.refused, Results.accepted, Results.refuse_when_else_, State.accountOf, State.goneOf, State.sound, States.reply, States.atPlaces, States.withLimitsOf, Verdicts.leaving, Verdicts.Leaves, Verdicts.settledBuffer, Verdicts.settled, Verdicts.Sided}
 use Rattle.lists.proofs.{Accounts.output-of, SoundLaws.sound-held}
 use Rattle.lists.proofs.Decisions.{acts-is, settles-refused, meets-sided}
+use Rattle.lists.proofs.SoundLaws.{soundness}
+use Rattle.records.proofs.Tests.{tested}
 use Rattle.edits.specs.{Acts.Acts, Charges.leftWith, Charges.DecidedBy, Deleting.deleted, Deleting.deleteGlyph, Merging.merge, Merging.clustersMerge, MergeActs.mergeLimits, MergeActs.Merges}
 use Rattle.edits.specs.Deletes.{Deletable, laid, DeleteRoom, NextFound, LastFound, Surviving, SurvivingBy, Inherits, Deletes, mergedWith}
 use Rattle.edits.proofs.Writings.{rest-short, rest-long}
@@ -149,3 +151,8 @@ module _ {b : Buffer} {f s : List ℕ} {v : Verdict} where
 -- at the end of the call
 pub due : (v : Verdict) (merged : Bool) {l : Limits} {w : Verdict} → l ≡ mergeLimits merged 2 (v .limits) → w ≡ leftWith l v → w ≡ mergedWith merged v
 due v merged el ew = rw (ew, el)
+
+-- for the proofs of functions
+pub ruleset delete-calls = (soundness, tested, delete-unsound, delete-phase, delete-ended, delete-goes, due)
+
+pub ruleset delete-acts = (next-found, next-lacks, last-found, last-lacks, surviving-next, surviving-last, inherits-none, inherits-apart, inherits-within, keeps-survived, keeps-single, keeps-inherited, keeps-merged, survives-first, survives-second)

@@ -9,6 +9,8 @@ use Rattle.records.proofs.View.{glyphs-same}
 use Rattle.lists.specs.declared.{Buffer.Buffer, Verdict.Verdict}
 use Rattle.lists.specs.{Account.readLevel, Account.Account, Account.State, Account.outputPhase, Account.spoiledPhase, Account.isSpoiled, Account.len, Account.withLimits, Results.refused, Results.accepted, Results.refuse_when_else_, State.shown, State.goneOf, State.stateOf, State.accountOf, State.sound, State.Held, States.withLimitsOf, Verdicts.Leaves, Verdicts.settled, Verdicts.Sided, Verdicts.Decided}
 use Rattle.lists.proofs.{Accounts.spoiled-of, Accounts.len-of, Accounts.gone-of, Accounts.wants-of, SoundLaws.sound-held, Decisions.near-same, Decisions.accepts, Decisions.decided-unsound, Decisions.decided-refused, Decisions.decided-accepted, Decisions.decided-does}
+use Rattle.lists.proofs.SoundLaws.{soundness}
+use Rattle.records.proofs.Tests.{tested}
 use Rattle.edits.specs.declared.{InputBound.InputBound}
 use Rattle.edits.specs.{Acts.Acts, Acts.Mergeful, Bounds.inputBound, Bounds.inputNumber, Flags.interior, Flags.sought, Flags.flagInterior, Flags.flagAll, Flags.number, Flags.tooFar, Flags.startOf, Flags.endOf, Flags.plainForm, Flags.wantsConcat, Flags.wantsTatweel, Holding.holds, Marks.flaggedRun, Marks.Flaggable, Marks.Flagged, Marks.FlagsInput, Plans.InputRange, Plans.InputFrom}
 use Rattle.edits.proofs.BoundLaws.{end-most}
@@ -202,3 +204,8 @@ module _ (wants : ℕ) where
 
   pub tatweel-unwanted : (wants / 2 % 2 ≡ 1 → ⊥) → _≡_ {A = ℕ} 3 (cond (wantsTatweel wants) 4 3)
   tatweel-unwanted h = rw (ne-eqb (wants / 2 % 2) 1 h)
+
+-- for the proofs of functions
+pub ruleset flag-calls = (soundness, tested, plain-unsound, plain-spoiled, plain-idle, plain-outside, plain-ahead, plain-asked, plain-break, plain-concat, plain-tatweel, flagged-at)
+
+pub ruleset flag-tests = (past, not-past, idle-wanted, idle-unwanted, start-past, tatweel-wanted, tatweel-unwanted)

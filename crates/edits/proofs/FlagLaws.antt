@@ -216,3 +216,6 @@ sought-empty level i cs = rw (slice-empty i cs) (same (is 2 level))
     same : (b : Bool) → cond b 4294967295 (min 4294967295 4294967295) ≡ 4294967295
     same true = refl
     same false = refl
+
+-- for the proofs of functions
+pub ruleset flag-laws = (interior-all, interior-part, of-first, of-last, part-order, part-end, marks-seeks, marks-first, marks-last, sought-least, sought-ends, interior-of)

@@ -26,3 +26,6 @@ module _ (gs bs : List ℕ) where
 pub given-none : (gs : List ℕ) → given gs [] ≡ gs
 unfolding wordsOf wordsAt
 given-none gs = append-nil gs
+
+-- for the proofs of functions
+pub ruleset giving = (given-count, given-number, word-room, given-word)

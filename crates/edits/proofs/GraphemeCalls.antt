@@ -74,3 +74,6 @@ module _ {slot : ℕ} (mask : ℕ) {b : Buffer} {merging : Bool} {level : ℕ} (
   pub graphemes-decided : {f s : List ℕ} {v : Verdict} → TakesKeyed slot b f s v
       → DecidedBy Limits leftWith (λ capacity a. reverseGraphemes slot mask a) b f s v (RunRoom (b .len .0) f s) (Regroups (b .phase) merging (b .level) (b .len .0) slot mask (b .limits))
   graphemes-decided w = keyed-decided graphemes-on w
+
+-- for the proofs of functions
+pub ruleset grapheme-calls = (regroup-plain, regroup-merged)

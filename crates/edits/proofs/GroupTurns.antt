@@ -83,3 +83,6 @@ clusters-done v o t = groups-done v o t
 -- and the graphemes
 pub graphemes-done : (slot mask : ℕ) {phase : Phase} {n i : ℕ} {run₀ other₀ run other run′ other′ : List ℕ} → GroupTurning (continues slot mask) phase n run₀ other₀ run other i → n ≤ i → Turns phase 0 n run other run′ other′ → TurnsGraphemes phase n slot mask run₀ other₀ run′ other′
 graphemes-done slot mask v o t = record { is = groups-done v o t }
+
+-- for the proofs of functions
+pub ruleset group-turning = (groups-none, groups-more, at-cluster, at-grapheme, turning-order, turning-run, turning-less, clusters-done, graphemes-done)

@@ -10,6 +10,8 @@ use Rattle.lists.specs.declared.{Buffer.Buffer, Verdict.Verdict, Room.Room, Roo
 use Rattle.lists.specs.{Account.readLevel, Account.Account, Account.positionsPhase, Account.spoiledPhase, Account.hasPositions, Account.len, Account.limiting, Account.sized, Account.failing, Account.withLimits, Account.withRest, Contract.isNo, Contract.MeetsIn, Results.Result, Results.refused, Results.accepted, Results.refuse_when_else_, Results.needing, State.shown, State.goneOf, State.stateOf, State.accountOf, State.sound, State.Soundness, State.Held, State.roomFor, States.reply, States.atPlaces, States.withLimitsOf, Verdicts.Leaves, Verdicts.failedBuffer, Verdicts.settled, Verdicts.Decided}
 use Rattle.lists.proofs.{Accounts.limits-of, Accounts.len-of, SizeLaws.fits-within, SizeLaws.needing-fits, Calls.in-accepted, Accounts.positions-of, Inner.room-gives-up, Inner.room-over, CursorCalls.sound-len}
 use Rattle.lists.proofs.Decisions.{Near, near-placed, leaves-is, result, room-of, gives-up, decided-unsound, decided-refused, decided-accepted, decided-does}
+use Rattle.lists.proofs.SoundLaws.{soundness}
+use Rattle.records.proofs.Tests.{tested}
 use Rattle.edits.specs.{Fills.longerBuffer, Fills.byLength, Fills.Lengthens, Fills.Puttable, Fills.Put, Fills.Pushes, WholeRun.notWhole, WholeRun.push, Wholes.WholeInput}
 use Rattle.edits.proofs.Holding.{behind-further, same-account}
 use Rattle.edits.proofs.WholeInputs.{wholeTest, not-not-whole, whole-gone, account-whole, whole-lengths}
@@ -207,3 +209,8 @@ push-size w h = omega (arith, sound-len w h)
 
 pub was-put : {run other run′ : List ℕ} {at number cluster : ℕ} {x : Glyph ℕ} → x ≡ record { glyph = number; info = blank cluster } → glyphs run′ ≡ set (glyphs run) at x → Put at number cluster run other run′ other
 was-put {run} {other} {run′} {at} ex e = record { run-is = e ∙ ap (set (glyphs run) at) ex; other-is = refl }
+
+-- for the proofs of functions
+pub ruleset push-calls = (soundness, tested, push-unsound, push-not-whole, push-positions, push-ahead, push-asked, push-size, was-put)
+
+pub ruleset lengthening = (longer-made, lengthens-fits, lengthens-fails, lengthens-over)

@@ -123,3 +123,6 @@ module _ {x separate interiorly : Bool} {level idx outLen s e : ℕ} {f g f′ g
 
   pub form-all : interiorly ≡ false → Sided x (OutFlagged separate false level 2 idx outLen s e) f g f′ g′ → Sided x (OutFlagged separate interiorly level (cond interiorly 3 2) idx outLen s e) f g f′ g′
   form-all h w = rw h w
+
+-- for the proofs of functions
+pub ruleset marking = (run-interior, run-short, run-all, flagged-is, marked-is, sought-none, marked-none, sought-second, sought-first, sought-both, out-interior, out-all, form-interior, form-all)

@@ -267,3 +267,6 @@ module _ {b : Buffer} {run other : List ℕ} (v : Held b run other) (s e : Input
           order = ltb-false (e .0) (s .0) (neither-left (ltb (e .0) (s .0)) _ none);
           end = ltb-false (b .len .0) (e .0) (neither-left (ltb (b .len .0) (e .0)) (ltb (s .0) (goneOf b)) more);
         }
+
+-- for the proofs of functions
+pub ruleset merge-tests = (outside-order, outside-end, outside-start, level-none, level-some)

@@ -11,6 +11,8 @@ use Rattle.lists.specs.declared.{Buffer.Buffer, Verdict.Verdict}
 use Rattle.lists.specs.{Account.Account, Account.readLevel, Account.spoiledPhase, Account.isSpoiled, Results.refused, Results.accepted, Results.refuse_when_else_, State.goneOf, State.accountOf, State.sound, State.Soundness, States.withLimitsOf, Verdicts.Leaves, Verdicts.settled, Verdicts.Sided, Verdicts.Decided}
 use Rattle.lists.proofs.{Accounts.spoiled-of, Accounts.level-of, Accounts.gone-of, SoundLaws.sound-held}
 use Rattle.lists.proofs.Decisions.{near-limits, leaves-as, decided-unsound, decided-refused, decided-does}
+use Rattle.lists.proofs.SoundLaws.{soundness}
+use Rattle.records.proofs.Tests.{tested}
 use Rattle.edits.specs.{Acts.Acts, Acts.Mergeful, Charges.running, Charges.MergesRun, Flags.interior, Flags.sought, Merging.merge, Merging.merged, Merging.mergeInput, Merging.outsideInput, Merging.clustersMerge, Merging.graphemesMerge, Plans.WrittenApart, Plans.WrittenWithin}
 use Rattle.edits.specs.MergeActs.{mergeLimits, liesApart, MergeRoom, Merges, MergesInput}
 use Rattle.edits.proofs.{Chaining.acts-as, MergeLaws.merged-apart, WholeInputs.whole-gone}
@@ -172,3 +174,8 @@ module _ {merges : Bool} {s e : InputPlace} {b : Buffer} {f g : List ℕ} {v : V
 
     pub input-graphemes : merges ≡ graphemesMerge (readLevel (b .level)) → InputDecided (λ level. graphemesMerge level)
     input-graphemes em = w .is (λ level. graphemesMerge level) em apart ea
+
+-- for the proofs of functions
+pub ruleset merge-calls = (soundness, tested, outside-ordered, merge-unsound, merge-spoiled, merge-outside, merge-goes, merge-room)
+
+pub ruleset merge-acts = (limits-paid, limits-few, limits-free, merges-few, merges-far, merges-apart, merges-within, merges-flags, run-merges, leaves-paid)

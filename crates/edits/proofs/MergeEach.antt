@@ -213,3 +213,6 @@ module _ {slot : ℕ} (mask : ℕ) {b : Buffer} {merging : Bool} (em : merging �
   pub form-decided : {f s : List ℕ} {v : Verdict} → TakesKeyed slot b f s v
       → DecidedBy Limits leftWith (λ capacity a. formClusters slot mask a) b f s v (RunRoom (b .len .0) f s) (MergesEach merging (b .level) (b .len .0) slot mask (b .limits))
   form-decided w = keyed-decided form-on w
+
+-- for the proofs of functions
+pub ruleset merging-each = (each-none, each-room, each-merge, each-less, each-more, each-done)

@@ -241,3 +241,6 @@ module _ {run out : List (Glyph ℕ)} {len outLen s e : ℕ} (idx : ℕ) {p : Me
 
   pub run-room : (run′ : List (Glyph ℕ)) → length run′ ≡ length run → p .to ≤ length run′
   run-room run′ same = omega (arith, plan-order v idx p ep .1, v .fits)
+
+-- for the proofs of functions
+pub ruleset merging = (tail-some, tail-none, written-apart, written-within, tail-room, run-order, run-room)

@@ -69,3 +69,6 @@ module _ (l : List (Glyph ℕ)) {len s e : ℕ} (order : s < e) (inside : e ≤ 
   planned idx {c} {m} {from} {to} {b} em ec ef et eb =
       let v : MergeRange l len s e m = record { order = order; inside = inside; fits = fits; lowest = em } in
       rw (range-is v, first-is v, ← em, ← ec, ← ef, ← et, ← eb)
+
+-- for the proofs of functions
+pub ruleset planning = (end-same, end-more, start-same, start-more, planned)

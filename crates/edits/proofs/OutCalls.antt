@@ -11,6 +11,8 @@ use Rattle.lists.specs.{Account.readLevel, Account.Account, Account.outputPhase
 use Rattle.lists.proofs.{Accounts.output-of, Accounts.out-of, Accounts.level-of, SoundLaws.sound-held}
 use Rattle.lists.proofs.Decisions.{near-limits, decided-unsound, decided-refused, decided-does}
 use Rattle.lists.proofs.Outputs.{gone-out, shown-output}
+use Rattle.lists.proofs.SoundLaws.{soundness}
+use Rattle.records.proofs.Tests.{tested}
 use Rattle.edits.specs.declared.{OutMerge.OutMerge}
 use Rattle.edits.specs.{Acts.Acts, Acts.OutMergeful, Holding.holds, Holding.cut, Merging.mergeOut, Merging.mergedOut, Merging.mergeDone, Merging.clustersMerge, Merging.graphemesMerge, Plans.outPlan, Plans.OutMergeable, Plans.OutWritable, Plans.WrittenOutApart, Plans.WrittenOutWithin}
 use Rattle.edits.specs.MergeActs.{mergeLimits, OutMergeRoom, OutMerges, MergesDone}
@@ -162,3 +164,8 @@ module _ {merges : Bool} {s e : DonePlace} {b : Buffer} {f g : List ℕ} {v : Ve
 
   pub done-graphemes : merges ≡ graphemesMerge (readLevel (b .level)) → DoneDecided (λ level. graphemesMerge level)
   done-graphemes em = w .is (λ level. graphemesMerge level) em
+
+-- for the proofs of functions
+pub ruleset out-merge-calls = (soundness, tested, done-unsound, done-phase, done-order, done-end, done-goes, done-room, done-clusters, done-graphemes)
+
+pub ruleset out-merge-acts = (outs-few, outs-free, outs-apart, outs-within, room-second, room-first, room-in-first, room-in-second)

@@ -9,6 +9,8 @@ use Rattle.records.proofs.View.{glyphs-same}
 use Rattle.lists.specs.declared.{Buffer.Buffer, Verdict.Verdict}
 use Rattle.lists.specs.{Account.readLevel, Account.Account, Account.outputPhase, Account.hasOutput, Account.len, Account.idx, Account.outLen, Account.withLimits, Results.refused, Results.accepted, Results.refuse_when_else_, State.accountOf, State.stateOf, State.sound, State.Held, States.withLimitsOf, Verdicts.Leaves, Verdicts.settled, Verdicts.Sided, Verdicts.Decided}
 use Rattle.lists.proofs.{Accounts.output-of, Accounts.out-of, Accounts.idx-of, Accounts.wants-of, Accounts.output-clean, SoundLaws.sound-held, Decisions.near-same, Decisions.accepts, Decisions.decided-unsound, Decisions.decided-refused, Decisions.decided-accepted, Decisions.decided-does}
+use Rattle.lists.proofs.SoundLaws.{soundness}
+use Rattle.records.proofs.Tests.{tested}
 use Rattle.edits.specs.declared.{InputBound.InputBound, DoneBound.DoneBound}
 use Rattle.edits.specs.{Acts.Acts, Bounds.inputBound, Bounds.inputNumber, Bounds.doneBound, Bounds.doneNumber, Flags.number, Flags.tooFar, Flags.startOf, Flags.endOf, Flags.outbufferForm, Flags.wantsConcat, Marks.flaggedPart, Marks.soughtOut, Marks.flagOut, Marks.OutFlaggable, Marks.OutFlagged, Marks.FlagsOut, Plans.OutRange}
 use Rattle.edits.proofs.BoundLaws.{end-most}
@@ -156,3 +158,6 @@ module _ {start : DoneBound} {end : InputBound} {b : Buffer} {f s : List ℕ} {v
 
 pub out-at : {y separate interiorly : Bool} {level x idx outLen i i′ j j′ : ℕ} {f s f′ s′ : List ℕ} → Sided y (OutFlagged separate interiorly level x idx outLen i j) f s f′ s′ → i ≡ i′ → j ≡ j′ → Sided y (OutFlagged separate interiorly level x idx outLen i′ j′) f s f′ s′
 out-at w ei ej = rw (← ei, ← ej) w
+
+-- for the proofs of functions
+pub ruleset out-flag-calls = (soundness, tested, out-unsound, out-none, out-idle, out-outside, out-ahead, out-asked, out-break, out-concat, out-at)

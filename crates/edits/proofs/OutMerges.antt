@@ -158,3 +158,6 @@ module _ {p : OutMerge} {idx len : ℕ} {run out : List (Glyph ℕ)} (v : OutWri
 
 pub out-writable : {run out : List (Glyph ℕ)} {idx len outLen s e : ℕ} {p : OutMerge} → OutMergeable run out idx len outLen s e → p ≡ outPlan s e (cut outLen out) → OutWritable p idx len run out
 out-writable {p = p} v ep = let o = out-order v p ep in record { order = o .0; end = omega (arith, o .1, v .out-fits); inside = v .inside; fits = v .fits }
+
+-- for the proofs of functions
+pub ruleset out-merging = (out-planned, head-some, head-none, written-out-apart, written-out-within, head-start, head-stop, out-room)

@@ -11,6 +11,8 @@ use Rattle.lists.specs.{Account.Account, Account.State, Account.outputPhase, Ac
 use Rattle.lists.proofs.{Accounts.len-of, SoundLaws.sound-held, SoundLaws.held-turned, Accounts.positions-of, Calls.in-accepted, Decisions.near-same, Decisions.decided-unsound, Decisions.decided-refused, Decisions.decided-does}
 use Rattle.edits.specs.{Fills.repositioned, Fills.Placeable, Fills.Placed, Fills.Places, Holding.holds, WholeRun.placed, WholeRun.place}
 use Rattle.lists.proofs.Outputs.{goneIn}
+use Rattle.lists.proofs.SoundLaws.{soundness}
+use Rattle.records.proofs.Tests.{tested}
 use Rattle.edits.proofs.Bridge.{input-is, holds-input}
 use Rattle.edits.proofs.Holding.{edit-take}
 use Rattle.edits.proofs.MergeCalls.{account-within}
@@ -142,3 +144,6 @@ module _ {i : InputPlace} {b : Buffer} {f s : List ℕ} {v : Verdict} where
 
 pub was-placed : {i xa ya xo yo : ℕ} {run other other′ : List ℕ} → placements other′ ≡ set (placements other) i (repositioned xa ya xo yo (getD (placements other) i zeroPosition)) → Placed i xa ya xo yo run other run other′
 was-placed e = record { run-is = refl; other-is = e }
+
+-- for the proofs of functions
+pub ruleset place-calls = (soundness, tested, put-placed, place-unsound, place-unplaced, place-behind, place-ahead, place-asked, was-placed)

@@ -168,3 +168,6 @@ on-run-propagate b = record {
 
 pub propagate-decided : {b : Buffer} {f s : List ℕ} {v : Verdict} → TakesWhole b f s v → Decided (λ capacity a. propagateFlags a) b f s (verdicts.settled b v) (v .acts) (RunOf (b .phase) (b .len .0) f s) (PropagatesRun (b .wants) (b .len .0))
 propagate-decided {b} w = takes-decided (on-run-propagate b) w
+
+-- for the proofs of functions
+pub ruleset propagating = (group-filled, one-masked, one-inside, one-filled, spread-none, group-order, group-fits, group-less, spread-more, spread-done, propagates-run, propagate-decided)

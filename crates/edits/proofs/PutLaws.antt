@@ -212,3 +212,6 @@ module _ {i l o m n x : ℕ} {run other : List ℕ} (v : Replaceable i l o m n x
 pub replaces-of : {separate apart merges : Bool} {level i l o m n : ℕ} {gs run other run₁ other₁ run′ other′ : List ℕ} {u : Glyph ℕ} → Sided false (Merges separate merges level i l o i (i + m)) run other run₁ other₁ → length run₁ ≡ length run → length other₁ ≡ length other → u ≡ getD (glyphs run₁) i zeroGlyph
     → Wrote separate apart o (copies (u .info) gs) n run₁ other₁ run′ other′ → Replaces separate apart merges level i l o m n gs run other run′ other′
 replaces-of {run₁ = run₁} {other₁ = other₁} {u = u} w lr lo eu q = record { run₁ = run₁; other₁ = other₁; run-long = lr; other-long = lo; merged = w; first = u; first-is = eu; wrote = q }
+
+-- for the proofs of functions
+pub ruleset put-laws = (wrote-apart, wrote-moved, wrote-within, moved-room, moved-one, one-apart, one-moved, one-within, reads-first, reads-last, outputs-of, own-number, other-number, replace-first, replace-puttable, replaces-of)

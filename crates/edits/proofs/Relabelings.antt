@@ -13,6 +13,7 @@ use Rattle.lists.specs.declared.{Buffer.Buffer, Verdict.Verdict}
 use Rattle.lists.specs.{Account.Account, Account.spoiledPhase, Account.len, Account.limiting, Account.paying, Account.withRest, Contract.MeetsIn, Results.accepted, Results.refuse_when_else_, State.shown, State.accountOf, State.sound, States.reply, States.withLimitsOf, Verdicts.Leaves, Verdicts.settled, Verdicts.Decided}
 use Rattle.lists.proofs.{Accounts.len-of, Accounts.limited-of}
 use Rattle.lists.proofs.Decisions.{near-same, near-limits, leaves-as, accepts, decided-unsound, decided-refused, decided-accepted, decided-does}
+use Rattle.lists.proofs.SoundLaws.{soundness}
 use Rattle.edits.specs.{WholeRun.notWhole, WholeRun.masked, WholeRun.setMasks, WholeRun.numbered, WholeRun.resetClusters, Wholes.WholeInput, Wholes.RunOf, Wholes.TakesWhole, Wholes.RunBecomes, Relabels.SetsMasks}
 use Rattle.edits.proofs.Holding.{edit-take, edit-drop-behind}
 use Rattle.edits.proofs.MergeCalls.{acts-paid, in-acts}
@@ -220,3 +221,8 @@ on-run-reset b = record {
 
 pub reset-decided : {b : Buffer} {f s : List ℕ} {v : Verdict} → TakesWhole b f s v → Decided (λ capacity a. resetClusters a) b f s (settled b v) (v .acts) (RunOf (b .phase) (b .len .0) f s) (RunBecomes (λ l. numbered 0 (take (b .len .0) l) ++ drop (b .len .0) l))
 reset-decided {b} w = takes-decided (on-run-reset b) w
+
+-- for the proofs of functions
+pub ruleset mask-calls = (soundness, masks-unsound, masks-not-whole, masks-none, masks-ahead, masks-first, masks-second)
+
+pub ruleset relabeling = (everywhere-start, everywhere-not, masked-everywhere, masked-from, masked-before, unmasked, masked-one, numbering-none, numbering-more, numbering-done, reset-decided)

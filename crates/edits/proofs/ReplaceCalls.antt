@@ -8,6 +8,8 @@ use Rattle.records.specs.{Contradiction, WrongPhase, OutOfRange, BadOperand, Do
 use Rattle.lists.specs.declared.{Buffer.Buffer, Reply.Reply, Verdict.Verdict, Room.the-variants.Fits}
 use Rattle.lists.specs.{Account.Account, Account.readLevel, Account.outputPhase, Account.outLen, Account.sized, Account.limiting, Account.withLimits, Contract.Meets, Contract.MeetsIn, Cursor.dropping, Moving.SyncOutput, State.accountOf, State.goneOf, State.sound, State.Soundness, State.Held, State.roomFor, States.reply, States.withLimitsOf, Verdicts.Leaves, Verdicts.Sized, Verdicts.Sided, Verdicts.wroteBuffer, Verdicts.settled}
 use Rattle.lists.proofs.{Accounts.output-of, SoundLaws.sound-held, Calls.in-call, SoundLaws.is-sound, Decisions.Lying, Decisions.near-placed, Decisions.decided-unsound, Decisions.decided-refused, Decisions.decided-sized, Decisions.end-acted, Decisions.end-still, Inner.sized-of}
+use Rattle.lists.proofs.SoundLaws.{soundness}
+use Rattle.records.proofs.Tests.{tested}
 use Rattle.edits.specs.{Acts.Acts, Acts.given, Acts.replacing, MergeActs.mergeLimits, Merging.merge, Merging.clustersMerge, Puts.overtakes, Puts.limited, Puts.costing, Puts.Writes, Puts.putBuffer, Puts.Replaceable, Puts.Replaces, Puts.OutputDecided, Puts.ReplaceDecided, Replaces.replaced, Replaces.writesReplaced, Writing.written, Writing.model, Writing.writing, Writing.replaceGlyphs}
 use Rattle.edits.proofs.Acting.{length-copies}
 use Rattle.edits.proofs.GivenLaws.{given-none}
@@ -147,3 +149,6 @@ meets-numbers m n gs w = rw given-none at w
 -- the output and the numbers asked for stay small
 pub given-small : {b : Buffer} {f s : List ℕ} {t : Bool} {n x : ℕ} → Soundness b f s t → t ≡ true → x ≤ 2 ^ 62 → n ≤ x → b .«out_len» .0 + n < 2 ^ 64
 given-small {b} {f} {s} w h ex k = let v = sound-held b f s (is-sound w h) in omega arith
+
+-- for the proofs of functions
+pub ruleset replace-calls = (soundness, tested, one-spoils, one-past, one-decided, paying-acts, paying-still, replace-unsound, replace-spoils, replace-empty, replace-few, replace-lacks, replace-decided, given-small)

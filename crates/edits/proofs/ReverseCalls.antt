@@ -9,6 +9,8 @@ use Rattle.records.proofs.View.{glyphs-same, placements-glyphs, length-paired}
 use Rattle.lists.specs.declared.{Buffer.Buffer, Verdict.Verdict}
 use Rattle.lists.specs.{Account.Account, Account.positionsPhase, Account.spoiledPhase, Account.withRest, Results.refused, Results.accepted, Results.refuse_when_else_, State.shown, State.goneOf, State.accountOf, State.sound, Turned.turned, Verdicts.Leaves, Verdicts.settled, Verdicts.Decided}
 use Rattle.lists.proofs.Decisions.{near-same, decided-unsound, decided-refused, decided-does}
+use Rattle.lists.proofs.SoundLaws.{soundness}
+use Rattle.records.proofs.Tests.{tested}
 use Rattle.edits.specs.{Acts.Acts, WholeRun.notWhole, WholeRun.reverseRun, WholeRun.reverseRange, Merging.outsideInput, Groups.sizes, Groups.sameCluster, Groups.regrouped, Groups.reverseClusters, Wholes.WholeInput, Wholes.RunOf, Wholes.TakesWhole, Reversals.Turns, Reversals.Rearranges, Reversals.ReversesRange}
 use Rattle.edits.proofs.MergeCalls.{outside-of, in-mergeful, in-acts}
 use Rattle.edits.proofs.WholeInputs.{wholeTest, not-not-whole, whole-rest, whole-acts}
@@ -166,3 +168,6 @@ module _ {start stop : InputPlace} {b : Buffer} {f s : List ℕ} {v : Verdict} w
 
     pub range-run : RunOf (b .phase) (stop .0) f s
     range-run = w .is .asked t .1
+
+-- for the proofs of functions
+pub ruleset reverse-calls = (soundness, tested, turns-plain, turns-positions, reverse-decided, clusters-decided, range-unsound, range-not-whole, range-over, range-ahead, range-order, range-run)

@@ -10,6 +10,8 @@ use Rattle.lists.specs.declared.{Buffer.Buffer, Verdict.Verdict, Room.the-varia
 use Rattle.lists.specs.{Account.Account, Account.positionsPhase, Account.len, Account.sized, Account.failing, Account.withRest, Contract.MeetsIn, Filled.filled, Results.answered, Results.refuse_when_else_, Results.needing, State.shown, State.accountOf, State.sound, State.roomFor, States.reply, Verdicts.Leaves}
 use Rattle.lists.proofs.{Accounts.len-of, Calls.in-answered, Filling.take-filled, Filling.drop-filled}
 use Rattle.lists.proofs.Decisions.{decided-unsound, decided-refused}
+use Rattle.lists.proofs.SoundLaws.{soundness}
+use Rattle.records.proofs.Tests.{tested}
 use Rattle.edits.specs.{Fills.longerBuffer, Fills.Lengthens, Fills.Lengthened, Fills.SetsLength, WholeRun.notWhole, WholeRun.setLength, Wholes.WholeInput, Wholes.RunOf}
 use Rattle.edits.proofs.Pairs.{paired-zeros}
 use Rattle.edits.proofs.Placings.{shown-positions}
@@ -122,3 +124,6 @@ module _ {n : ℕ} {b : Buffer} {f s : List ℕ} {v : Verdict} where
 
   pub length-asked : SetsLength n b f s v → v .acts ≡ true → RunOf (b .phase) n f s
   length-asked w t = w .is .asked t
+
+-- for the proofs of functions
+pub ruleset length-calls = (soundness, tested, lengthened-short, lengthened-plain, lengthened-positions, length-unsound, length-not-whole, length-ahead, length-asked)

@@ -220,3 +220,6 @@ module _ {slot : ℕ} (mask value : ℕ) {b : Buffer} where
     pub inplace-decided : {f s : List ℕ} {v : Verdict} → TakesKeyed slot b f s v
         → DecidedBy Kept keptWith (λ capacity a. deleteGlyphsInplace slot mask value a) b f s v (RunRoom (b .len .0) f s) (Sifts slot mask value t (b .level) (b .len .0) (b .limits))
     inplace-decided w = keyed-decided inplace-on w
+
+-- for the proofs of functions
+pub ruleset sifting = (sifting-none, sifting-key, sifting-delete, sifting-keep, sifting-deleted, sifting-kept, sifting-done)

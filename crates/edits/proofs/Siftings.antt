@@ -196,3 +196,6 @@ module _ (t : Bool) (slot mask value : ℕ) {level n i o : ℕ} {l : Limits} {b 
     pub one-kept : {run′ other′ : List ℕ} → (k ≡ value → ⊥) → MovesGlyph t i o run other run′ other′ → length run′ ≡ length run → length other′ ≡ length other → Onward (sifted slot mask value) t (amid level n b l i o) run other (amid level n b l (i + 1) (o + 1)) run′ other′
     unfolding sifted
     one-kept h u lr lo = onward-as (keep-onward t v u lr lo) (rw (ne-eqb (key slot mask (current (underway t (amid level n b l i o) run other))) value (λ q. h (ek ∙ (sym key-here ∙ q)))))
+
+-- for the proofs of functions
+pub ruleset moving-down = (position-moved, position-none, glyph-same, glyph-moved)

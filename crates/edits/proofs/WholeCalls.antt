@@ -7,7 +7,7 @@ use Rattle.records.specs.{Phase, Contradiction, WrongPhase, Done, No, Glyphs.Gl
 use Rattle.records.proofs.View.{glyphs-same, placements-glyphs}
 use Rattle.lists.specs.declared.{Buffer.Buffer, Reply.Reply, Verdict.Verdict}
 use Rattle.lists.specs.{Account.Account, Contract.Meets, Contract.MeetsIn, Results.Result, Results.refused, State.sound, States.reply, Verdicts.leaving, Verdicts.Leaves, Verdicts.settled, Verdicts.Decided}
-use Rattle.lists.proofs.SoundLaws.{sound-held}
+use Rattle.lists.proofs.SoundLaws.{sound-held, soundness}
 use Rattle.lists.proofs.Decisions.{Lying, Refuses, leaves-is, near-same, decided-unsound, decided-refused, decided-does}
 use Rattle.edits.specs.{WholeRun.notWhole, Wholes.WholeInput, Wholes.RunRoom, Wholes.RunOf, Wholes.wholeVerdict, Wholes.TakesWhole, Wholes.RunBecomes}
 use Rattle.edits.proofs.WholeInputs.{wholeTest, whole-test, whole-input}
@@ -27,9 +27,9 @@ pub sound-whole : {b : Buffer} {f s : List ℕ} {t : Bool} → sound b f s ≡ t
 sound-whole {b} {f} {s} h e k = whole-input (sound-held b f s h) e k
 
 -- ---- the end of an exported call whose verdict serves any operands: which ones, the call says
-pub ending : {call : ℕ → Account ℕ → Result ℕ} {b : Buffer} {f s f′ s′ : List ℕ} {r₀ r : Reply} {acts : Bool} {Ask : Type 0} {Act : (run other run′ other′ : List ℕ) → Type 0}
+pub serving : {call : ℕ → Account ℕ → Result ℕ} {b : Buffer} {f s f′ s′ : List ℕ} {r₀ r : Reply} {acts : Bool} {Ask : Type 0} {Act : (run other run′ other′ : List ℕ) → Type 0}
     → Decided call b f s r₀ acts Ask Act → (Decided call b f s r₀ acts Ask Act → Meets call b f s r f′ s′) → Meets call b f s r f′ s′
-ending d k = k d
+serving d k = k d
 
 -- ---- a run, whichever slice holds it
 module _ {n : ℕ} {run other : List ℕ} (w : RunRoom n run other) where
@@ -123,3 +123,8 @@ module _ {b : Buffer} {f s : List ℕ} {v : Verdict} (w : TakesWhole b f s v) (t
 
   pub takes-few : b .len .0 ≤ 1048576
   takes-few = takes-run .room .few
+
+-- for the proofs of functions
+pub ruleset whole-calls = (soundness, takes-unsound, takes-not, takes-ahead, takes-run, takes-first, takes-second, takes-few)
+
+pub ruleset run-laws = (room-turned, run-turned, places-fit, run-lengths, below, run-becomes)

@@ -9,6 +9,7 @@ use Rattle.records.proofs.View.{beyond-glyphs, beyond-placements, whole-same}
 use Rattle.lists.specs.declared.{Buffer.Buffer, Reply.Reply}
 use Rattle.lists.specs.{Account.Account, Account.outputPhase, Account.spoiledPhase, Account.idx, Account.withRest, Contract.MeetsIn, Results.Result, Results.refused, State.shown, State.goneOf, State.stateOf, State.accountOf, State.Held, States.reply}
 use Rattle.lists.proofs.{Outputs.gone-without, Accounts.output-of, Accounts.spoiled-of, Accounts.idx-of, Accounts.rest-of, SoundLaws.held-lengths, Calls.in-refused}
+use Rattle.records.proofs.Tests.{tested}
 use Rattle.edits.specs.{Acts.Acts, WholeRun.notWhole, Wholes.WholeInput}
 use Rattle.edits.proofs.Holding.{behind-further}
 use Rattle.edits.proofs.MergeCalls.{neither-left, neither-right}
@@ -88,3 +89,6 @@ module _ {b : Buffer} {run other run′ other′ : List ℕ} (w : WholeInput b r
           other-beyond = sym (beyond-placements n other other′ (whole-same run other (w .held .same) (w .held .whole)) (sym lo) (sym (behind-further (b .len .0) n (placements other) (placements other′) (w .held .len-in) dp)));
           held = w .held;
         }
+
+-- for the proofs of functions
+pub ruleset whole-tests = (tested, test-output, test-spoiled, test-cursor)

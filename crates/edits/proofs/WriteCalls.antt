@@ -10,6 +10,8 @@ use Rattle.records.proofs.View.{length-glyphs, glyphs-same}
 use Rattle.lists.specs.declared.{Buffer.Buffer, Verdict.Verdict, Room.Room, Room.the-variants.Fits, Room.the-variants.GivesUp, Room.the-variants.Over}
 use Rattle.lists.specs.{Account.Account, Account.outputPhase, Account.outLen, Account.sized, Contract.MeetsIn, Cursor.dropping, Moving.SyncOutput, Results.Result, State.accountOf, State.sound, State.Soundness, State.Held, State.roomFor, States.reply, States.withLimitsOf, States.atPlaces, States.apartBuffer, Verdicts.Leaves, Verdicts.Sized, Verdicts.bySize, Verdicts.wroteBuffer, Verdicts.failedBuffer, Verdicts.settledBuffer, Verdicts.settled, Verdicts.Decided}
 use Rattle.lists.proofs.{SoundLaws.sound-held, SizeLaws.fits-within, Accounts.output-of, Calls.in-call, SoundLaws.is-sound, Decisions.Lying, Decisions.Needs, Decisions.Rooms, Decisions.room-of, Decisions.meets-sided, Decisions.decided-unsound, Decisions.decided-refused, Decisions.decided-accepted, Decisions.near-limits, Decisions.decided-sized, Decisions.leaves-is, Inner.sized-of}
+use Rattle.lists.proofs.SoundLaws.{soundness}
+use Rattle.records.proofs.Tests.{tested}
 use Rattle.edits.specs.{Acts.Acts, Acts.writesOne, Puts.overtakes, Puts.lying, Puts.moving, Puts.limited, Puts.costing, Puts.sizeAlone, Puts.Writes, Puts.putBuffer, Puts.Puttable, Puts.Wrote, Puts.modelAt, Puts.Outputable, Puts.Outputs, Puts.OutputDecided, Puts.InfoDecided, Writing.written, Writing.model, Writing.writing, Writing.copyGlyph, Writing.outputGlyph}
 use Rattle.edits.proofs.PutLaws.{stays-behind, wrote-acts, model-first, model-last}
 use Rattle.edits.proofs.Writings.{writing-room, writing-done, size-done, grown-roomy, out-size, dropping-none, rest-first, rest-none, rest-short, rest-long, done-last, all-some, all-none, model-rest, model-done, copy-none, copy-outside, copy-writes, glyph-none, glyph-writes, glyph-sizes, info-none, info-writes}
@@ -240,3 +242,6 @@ module _ {b : Buffer} {f s : List ℕ} {v : Verdict} {g : Words} where
         (λ run other l. info-writes _ _ (output-of b run other ∙ o) (seen g .glyph) (seen g .info))
         (λ x run other run′ other′ act. act) (room-puttable h) em q;
   }
+
+-- for the proofs of functions
+pub ruleset write-calls = (soundness, tested, overtakes-apart, overtakes-within, writes-moving, writes-still, idx-still, idx-next, out-next, both-small, output-unsound, copy-spoils, output-spoils, copy-past, copy-decided, output-decided, output-sizes, info-unsound, info-spoils, info-decided)

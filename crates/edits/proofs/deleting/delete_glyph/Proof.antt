@@ -1,5 +1,5 @@
 use mathlib.Core.Logic.{⊎-elim}
-use Rattle.lists.proofs.Decisions.{kept-length}
+use Rattle.lists.proofs.Decisions.{ending}
 use Rattle.edits.proofs.Charging.{by-acted, by-still}
 use Rattle.edits.proofs.DeleteCalls.{due}
 use borrow.Author.Needs.{needs}
@@ -10,10 +10,10 @@ keep-cluster-requires : tie.Need-keep-cluster-requires
 keep-cluster-requires c κs = c .before .before .before .delete-verdict .ensures .asked (c .before .before .if1 .taken)
 
 same-length : tie.Need-same-length
-same-length c = ⊎-elim (λ w. search (kept-length, needs)) (λ w. search (kept-length, needs)) (c .before .if1 .came)
+same-length c = ⊎-elim (λ w. search (ending, needs)) (λ w. search (ending, needs)) (c .before .if1 .came)
 
 same-length-2 : tie.Need-same-length-2
-same-length-2 c = ⊎-elim (λ w. search (kept-length, needs)) (λ w. search (kept-length, needs)) (c .before .if1 .came)
+same-length-2 c = ⊎-elim (λ w. search (ending, needs)) (λ w. search (ending, needs)) (c .before .if1 .came)
 
 returns : tie.Need-returns
 returns c = ⊎-elim (λ w. search (by-acted, due)) (λ w. search by-still) (c .before .if1 .came)

@@ -1,22 +1,19 @@
 use mathlib.Core.Logic.{⊎-elim}
-use Rattle.lists.proofs.Decisions.{kept-length}
-use Rattle.edits.proofs.Charging.{by-acted, by-still, keyed-room, ending}
+use Rattle.lists.proofs.Decisions.{ending}
+use Rattle.edits.proofs.Charging.{serving-by, charging, ending-by}
 use Rattle.edits.proofs.SiftedRuns.{inplace-decided}
 use borrow.Author.Needs.{needs}
 use Rattle.edits.proofs.deleting_inplace.delete_glyphs_inplace.Statement.{statement}
 use Rattle.edits.proofs.deleting_inplace.delete_glyphs_inplace.Tie as tie
 
-sift-by-requires : tie.Need-sift-by-requires
-sift-by-requires c κs = search keyed-room
-
 same-length : tie.Need-same-length
-same-length c = ⊎-elim (λ w. search (kept-length, needs)) (λ w. search (kept-length, needs)) (c .before .if1 .came)
+same-length c = ⊎-elim (λ w. search (ending, needs)) (λ w. search (ending, needs)) (c .before .if1 .came)
 
 same-length-2 : tie.Need-same-length-2
-same-length-2 c = ⊎-elim (λ w. search (kept-length, needs)) (λ w. search (kept-length, needs)) (c .before .if1 .came)
+same-length-2 c = ⊎-elim (λ w. search (ending, needs)) (λ w. search (ending, needs)) (c .before .if1 .came)
 
 returns : tie.Need-returns
-returns c = let at : tie.After-keyed-verdict = search in let before : tie.After-have-positions = search in ending (inplace-decided _ _ (before .have-positions .ensures) (at .keyed-verdict .ensures)) (λ d. ⊎-elim (λ w. search by-acted) (λ w. search by-still) (c .before .if1 .came))
+returns c = let at : tie.After-keyed-verdict = search in let before : tie.After-have-positions = search in serving-by (inplace-decided _ _ (before .have-positions .ensures) (at .keyed-verdict .ensures)) (λ d. ⊎-elim (λ w. search ending-by) (λ w. search ending-by) (c .before .if1 .came))
 
 pub delete-glyphs-inplace-spec : {M : Type 1} → statement M
-delete-glyphs-inplace-spec = tie.close (tie.spec (search needs) (search needs) sift-by-requires (search needs) same-length same-length-2 returns)
+delete-glyphs-inplace-spec = tie.close (tie.spec (search needs) (search needs) (λ c κs. search charging) (search needs) same-length same-length-2 returns)

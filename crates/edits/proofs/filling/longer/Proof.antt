@@ -1,10 +1,7 @@
-use Rattle.edits.proofs.Lengths.{longer-made}
+use Rattle.edits.proofs.Lengths.{lengthening}
 use borrow.Author.Needs.{needs}
 use Rattle.edits.proofs.filling.longer.Statement.{statement}
 use Rattle.edits.proofs.filling.longer.Tie as tie
 
-returns : tie.Need-returns
-returns c = search longer-made
-
 pub longer-spec : {M : Type 1} → statement M
-longer-spec = tie.close (tie.spec (search needs) (search needs) (search needs) returns)
+longer-spec = tie.close (tie.spec (search needs) (search needs) (search needs) (λ c. search lengthening))

@@ -1,21 +1,18 @@
 use mathlib.Core.Logic.{⊎-elim}
-use Rattle.lists.proofs.Decisions.{end-acted, end-still, kept-length}
-use Rattle.edits.proofs.FlagCalls.{plain-asked, plain-tatweel, flagged-at}
+use Rattle.lists.proofs.Decisions.{end-acted, end-still, ending}
+use Rattle.edits.proofs.FlagCalls.{plain-tatweel, flagged-at, flag-calls}
 use borrow.Author.Needs.{needs}
 use Rattle.edits.proofs.flagging.safe_to_insert_tatweel.Statement.{statement}
 use Rattle.edits.proofs.flagging.safe_to_insert_tatweel.Tie as tie
 
-flag-by-requires : tie.Need-flag-by-requires
-flag-by-requires c κs = search plain-asked
-
 same-length : tie.Need-same-length
-same-length c = ⊎-elim (λ w. search (kept-length, needs)) (λ w. search (kept-length, needs)) (c .before .if1 .came)
+same-length c = ⊎-elim (λ w. search (ending, needs)) (λ w. search (ending, needs)) (c .before .if1 .came)
 
 same-length-2 : tie.Need-same-length-2
-same-length-2 c = ⊎-elim (λ w. search (kept-length, needs)) (λ w. search (kept-length, needs)) (c .before .if1 .came)
+same-length-2 c = ⊎-elim (λ w. search (ending, needs)) (λ w. search (ending, needs)) (c .before .if1 .came)
 
 returns : tie.Need-returns
 returns c = ⊎-elim (λ w. search (end-acted, plain-tatweel, flagged-at)) (λ w. search (end-still, plain-tatweel)) (c .before .if1 .came)
 
 pub safe-to-insert-tatweel-spec : {M : Type 1} → statement M
-safe-to-insert-tatweel-spec = tie.close (tie.spec (search needs) (search needs) (search needs) (search needs) flag-by-requires (search needs) same-length same-length-2 returns)
+safe-to-insert-tatweel-spec = tie.close (tie.spec (search needs) (search needs) (search needs) (search needs) (λ c κs. search flag-calls) (search needs) same-length same-length-2 returns)

@@ -1,10 +1,7 @@
-use Rattle.edits.proofs.FlagLaws.{interior-of}
+use Rattle.edits.proofs.FlagLaws.{flag-laws}
 use borrow.Author.Needs.{needs}
 use Rattle.edits.proofs.flags.flag_range.Statement.{statement}
 use Rattle.edits.proofs.flags.flag_range.Tie as tie
 
-returns : tie.Need-returns
-returns c = search interior-of
-
 pub flag-range-spec : {M : Type 1} → statement M
-flag-range-spec = tie.close (tie.spec (search needs) (search needs) (search needs) returns)
+flag-range-spec = tie.close (tie.spec (search needs) (search needs) (search needs) (λ c. search flag-laws))

@@ -1,13 +1,7 @@
-use Rattle.edits.proofs.FlagLaws.{sought-least, sought-ends}
+use Rattle.edits.proofs.FlagLaws.{flag-laws}
 use borrow.Author.Needs.{needs}
 use Rattle.edits.proofs.flags.sought_cluster.Statement.{statement}
 use Rattle.edits.proofs.flags.sought_cluster.Tie as tie
 
-returns : tie.Need-returns
-returns c = search sought-least
-
-returns-2 : tie.Need-returns-2
-returns-2 c = search sought-ends
-
 pub sought-cluster-spec : {M : Type 1} → statement M
-sought-cluster-spec = tie.close (tie.spec (search needs) (search needs) returns (search needs) (search needs) (search needs) (search needs) returns-2)
+sought-cluster-spec = tie.close (tie.spec (search needs) (search needs) (λ c. search flag-laws) (search needs) (search needs) (search needs) (search needs) (λ c. search flag-laws))

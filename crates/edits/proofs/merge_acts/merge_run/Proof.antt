@@ -1,10 +1,7 @@
-use Rattle.edits.proofs.MergeDecisions.{run-merges}
+use Rattle.edits.proofs.MergeDecisions.{merge-acts}
 use borrow.Author.Needs.{needs}
 use Rattle.edits.proofs.merge_acts.merge_run.Statement.{statement}
 use Rattle.edits.proofs.merge_acts.merge_run.Tie as tie
 
-returns : tie.Need-returns
-returns c = search run-merges
-
 pub merge-run-spec : {M : Type 1} → statement M
-merge-run-spec = tie.close (tie.spec (search needs) (search needs) (search needs) returns)
+merge-run-spec = tie.close (tie.spec (search needs) (search needs) (search needs) (λ c. search merge-acts))

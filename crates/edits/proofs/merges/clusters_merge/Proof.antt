@@ -5,11 +5,8 @@ use borrow.Author.Needs.{needs}
 use Rattle.edits.proofs.merges.clusters_merge.Statement.{statement}
 use Rattle.edits.proofs.merges.clusters_merge.Tie as tie
 
-read-level-requires : tie.Need-read-level-requires
-read-level-requires c κs = search needs
-
 returns : tie.Need-returns
 returns c = ap (λ (k : ℕ). leb k 1) (c .read-level .ensures)
 
 pub clusters-merge-spec : {M : Type 1} → statement M
-clusters-merge-spec = tie.close (tie.spec read-level-requires returns)
+clusters-merge-spec = tie.close (tie.spec (search needs) returns)

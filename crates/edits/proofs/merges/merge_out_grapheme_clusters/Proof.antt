@@ -1,21 +1,18 @@
 use mathlib.Core.Logic.{⊎-elim}
-use Rattle.lists.proofs.Decisions.{end-acted, end-still, kept-length}
-use Rattle.edits.proofs.OutCalls.{done-room, done-graphemes}
+use Rattle.lists.proofs.Decisions.{ending}
+use Rattle.edits.proofs.OutCalls.{out-merge-calls}
 use borrow.Author.Needs.{needs}
 use Rattle.edits.proofs.merges.merge_out_grapheme_clusters.Statement.{statement}
 use Rattle.edits.proofs.merges.merge_out_grapheme_clusters.Tie as tie
 
-merge-out-by-requires : tie.Need-merge-out-by-requires
-merge-out-by-requires c κs = search done-room
-
 same-length : tie.Need-same-length
-same-length c = ⊎-elim (λ w. search (kept-length, needs)) (λ w. search (kept-length, needs)) (c .before .if1 .came)
+same-length c = ⊎-elim (λ w. search (ending, needs)) (λ w. search (ending, needs)) (c .before .if1 .came)
 
 same-length-2 : tie.Need-same-length-2
-same-length-2 c = ⊎-elim (λ w. search (kept-length, needs)) (λ w. search (kept-length, needs)) (c .before .if1 .came)
+same-length-2 c = ⊎-elim (λ w. search (ending, needs)) (λ w. search (ending, needs)) (c .before .if1 .came)
 
 returns : tie.Need-returns
-returns c = let v = c .before .before .merge-out-verdict .ensures in ⊎-elim (λ w. search (end-acted, done-graphemes, v)) (λ w. search (end-still, done-graphemes, v)) (c .before .if1 .came)
+returns c = let v = c .before .before .merge-out-verdict .ensures in ⊎-elim (λ w. search (ending, out-merge-calls, v)) (λ w. search (ending, out-merge-calls, v)) (c .before .if1 .came)
 
 pub merge-out-grapheme-clusters-spec : {M : Type 1} → statement M
-merge-out-grapheme-clusters-spec = tie.close (tie.spec (search needs) (search needs) merge-out-by-requires (search needs) same-length same-length-2 returns)
+merge-out-grapheme-clusters-spec = tie.close (tie.spec (search needs) (search needs) (λ c κs. search out-merge-calls) (search needs) same-length same-length-2 returns)

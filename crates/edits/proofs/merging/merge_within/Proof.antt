@@ -1,17 +1,8 @@
 use Rattle.records.proofs.View.{glyphs-same}
-use Rattle.edits.proofs.MergeLaws.{tail-room, run-order, run-room, written-within}
+use Rattle.edits.proofs.MergeLaws.{merging}
 use borrow.Author.Needs.{needs}
 use Rattle.edits.proofs.merging.merge_within.Statement.{statement}
 use Rattle.edits.proofs.merging.merge_within.Tie as tie
 
-set-clusters-requires : tie.Need-set-clusters-requires
-set-clusters-requires c κs = search (tail-room, needs)
-
-set-clusters-requires-2 : tie.Need-set-clusters-requires-2
-set-clusters-requires-2 c κs = search (run-order, run-room, glyphs-same, needs)
-
-returns : tie.Need-returns
-returns c = search written-within
-
 pub merge-within-spec : {M : Type 1} → statement M
-merge-within-spec = tie.close (tie.spec (search needs) (search needs) set-clusters-requires set-clusters-requires-2 (search needs) returns)
+merge-within-spec = tie.close (tie.spec (search needs) (search needs) (λ c κs. search (merging, needs)) (λ c κs. search (merging, glyphs-same, needs)) (search needs) (λ c. search merging))

@@ -4,7 +4,7 @@ use native.Mathlib.Omega.{arith}
 use Rattle.records.specs.View.{seen}
 use Rattle.records.proofs.View.{glyphs-fit}
 use Rattle.edits.specs.Acts.{given}
-use Rattle.edits.proofs.Acting.{Putting, putting-none, putting-more, putting-done}
+use Rattle.edits.proofs.Acting.{Putting, putting}
 use borrow.Author.Needs.{needs}
 use Rattle.edits.proofs.replace_acts.put_copies.Statement.{statement}
 use Rattle.edits.proofs.replace_acts.put_copies.Tie as tie
@@ -15,18 +15,9 @@ Inv-loop ws₀ at g numbers bytes n i₀ ws i = Putting ws₀ at (seen g .info) 
 abbrev μ-loop : tie.MeasureT-loop
 μ-loop ws₀ at g numbers bytes n i₀ ws i = n - i
 
-loop-holds : tie.Need-loop-holds Inv-loop μ-loop
-loop-holds c = search putting-none
-
 add-put : tie.Need-add-put Inv-loop μ-loop
 add-put c = omega (arith, glyphs-fit (c .before .before .loop .ws))
 
-loop-again : tie.Need-loop-again Inv-loop μ-loop
-loop-again c = search putting-more
-
-returns : tie.Need-returns Inv-loop μ-loop
-returns c = search putting-done
-
 pub put-copies-spec : {M : Type 1} → statement M
 put-copies-spec =
-    tie.close (tie.spec Inv-loop μ-loop loop-holds add-put (search needs) (search needs) (search needs) (search needs) (search needs) loop-again (search needs) returns)
+    tie.close (tie.spec Inv-loop μ-loop (λ c. search putting) add-put (search needs) (search needs) (search needs) (search needs) (search needs) (λ c. search putting) (search needs) (λ c. search putting))

@@ -1,5 +1,5 @@
 use mathlib.Core.Logic.{⊎-elim}
-use Rattle.lists.proofs.Decisions.{kept-length}
+use Rattle.lists.proofs.Decisions.{ending}
 use Rattle.edits.proofs.ReplaceCalls.{replace-ready, replace-acted, replace-still, meets-numbers}
 use borrow.Author.Needs.{needs}
 use Rattle.edits.proofs.replacing.replace_glyphs.Statement.{statement}
@@ -9,10 +9,10 @@ replace-by-requires : tie.Need-replace-by-requires
 replace-by-requires c κs = let at : tie.After-replace-verdict = search in replace-ready (at .replace-verdict .ensures) (search)
 
 same-length : tie.Need-same-length
-same-length c = let end : tie.Joined1 = search in ⊎-elim (λ w. search (kept-length, needs)) (λ w. search (kept-length, needs)) (end .if1 .came)
+same-length c = let end : tie.Joined1 = search in ⊎-elim (λ w. search (ending, needs)) (λ w. search (ending, needs)) (end .if1 .came)
 
 same-length-2 : tie.Need-same-length-2
-same-length-2 c = let end : tie.Joined1 = search in ⊎-elim (λ w. search (kept-length, needs)) (λ w. search (kept-length, needs)) (end .if1 .came)
+same-length-2 c = let end : tie.Joined1 = search in ⊎-elim (λ w. search (ending, needs)) (λ w. search (ending, needs)) (end .if1 .came)
 
 returns : tie.Need-returns
 returns c = let end : tie.Joined1 = search in let at : tie.After-replace-verdict = search in meets-numbers _ _ _ (⊎-elim (λ w. search (replace-acted (at .replace-verdict .ensures))) (λ w. search (replace-still (at .replace-verdict .ensures))) (end .if1 .came))

@@ -1,23 +1,20 @@
 use mathlib.Core.Path.{refl}
 use mathlib.Core.Logic.{⊎-elim}
-use Rattle.lists.proofs.Decisions.{kept-length}
-use Rattle.edits.proofs.Charging.{by-acted, by-still, keyed-run, ending}
+use Rattle.lists.proofs.Decisions.{ending}
+use Rattle.edits.proofs.Charging.{serving-by, charging, ending-by}
 use Rattle.edits.proofs.GraphemeCalls.{graphemes-decided}
 use borrow.Author.Needs.{needs}
 use Rattle.edits.proofs.reversing.reverse_graphemes.Statement.{statement}
 use Rattle.edits.proofs.reversing.reverse_graphemes.Tie as tie
 
-regroup-by-requires : tie.Need-regroup-by-requires
-regroup-by-requires c κs = search keyed-run
-
 same-length : tie.Need-same-length
-same-length c = ⊎-elim (λ w. search (kept-length, needs)) (λ w. search (kept-length, needs)) (c .before .if1 .came)
+same-length c = ⊎-elim (λ w. search (ending, needs)) (λ w. search (ending, needs)) (c .before .if1 .came)
 
 same-length-2 : tie.Need-same-length-2
-same-length-2 c = ⊎-elim (λ w. search (kept-length, needs)) (λ w. search (kept-length, needs)) (c .before .if1 .came)
+same-length-2 c = ⊎-elim (λ w. search (ending, needs)) (λ w. search (ending, needs)) (c .before .if1 .came)
 
 returns : tie.Need-returns
-returns c = let at : tie.After-keyed-verdict = search in let before : tie.After-read-level = search in ending (graphemes-decided _ (before .read-level .ensures) refl (at .keyed-verdict .ensures)) (λ d. ⊎-elim (λ w. search by-acted) (λ w. search by-still) (c .before .if1 .came))
+returns c = let at : tie.After-keyed-verdict = search in let before : tie.After-read-level = search in serving-by (graphemes-decided _ (before .read-level .ensures) refl (at .keyed-verdict .ensures)) (λ d. ⊎-elim (λ w. search ending-by) (λ w. search ending-by) (c .before .if1 .came))
 
 pub reverse-graphemes-spec : {M : Type 1} → statement M
-reverse-graphemes-spec = tie.close (tie.spec (search needs) (search needs) regroup-by-requires (search needs) same-length same-length-2 returns)
+reverse-graphemes-spec = tie.close (tie.spec (search needs) (search needs) (λ c κs. search charging) (search needs) same-length same-length-2 returns)

@@ -1,20 +1,8 @@
-use Rattle.lists.proofs.Decisions.{sided-first, sided-second}
-use Rattle.edits.proofs.WholeCalls.{run-turned}
+use Rattle.lists.proofs.Decisions.{settling}
+use Rattle.edits.proofs.WholeCalls.{run-laws}
 use borrow.Author.Needs.{needs}
 use Rattle.edits.proofs.reversing.turn_clusters_by.Statement.{statement}
 use Rattle.edits.proofs.reversing.turn_clusters_by.Tie as tie
 
-turn-clusters-requires : tie.Need-turn-clusters-requires
-turn-clusters-requires c κs = search run-turned
-
-turn-clusters-requires-2 : tie.Need-turn-clusters-requires-2
-turn-clusters-requires-2 c κs = search needs
-
-returns : tie.Need-returns
-returns c = search sided-second
-
-returns-2 : tie.Need-returns-2
-returns-2 c = search sided-first
-
 pub turn-clusters-by-spec : {M : Type 1} → statement M
-turn-clusters-by-spec = tie.close (tie.spec turn-clusters-requires turn-clusters-requires-2 (search needs) (search needs) returns (search needs) (search needs) returns-2)
+turn-clusters-by-spec = tie.close (tie.spec (λ c κs. search run-laws) (λ c κs. search needs) (search needs) (search needs) (λ c. search settling) (search needs) (search needs) (λ c. search settling))
