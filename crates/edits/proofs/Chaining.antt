@@ -1,12 +1,18 @@
 -- What is done to the lists of a buffer, one after the other.
 use mathlib.Core.{Path._≡_, Path.sym, Path.ap, Path._∙_, Path.subst, List.List}
-use Prim.Native.Nat.{ℕ}
+use Prim.Native.Nat.{ℕ, _≤_, _<_}
+use native.Mathlib.Omega.{arith}
 use lib.{ListN.length}
-use Rattle.records.specs.{View.wordsFrom}
+use Rattle.records.specs.{View.glyphs, View.wordsFrom}
+use Rattle.records.proofs.View.{glyphs-same}
 use Rattle.lists.specs.declared.{Buffer.Buffer}
 use Rattle.lists.specs.{Account.Account, State.accountOf}
 use Rattle.lists.proofs.{SoundLaws.held-lengths}
 use Rattle.edits.specs.{Acts.Acts}
+
+-- a place in a slice whose length was kept
+pub stays-inside : {i n : ℕ} (run run₁ : List ℕ) → length run₁ ≡ length run → n ≤ length (glyphs run) → i < n → i < length (glyphs run₁)
+stays-inside run run₁ e h o = omega (arith, glyphs-same run₁ run e, h, o)
 
 module _ {h : Account ℕ → Account ℕ} {b f : Buffer} {run other run₁ other₁ : List ℕ} (u : Acts h b run other f run₁ other₁) where
   -- the same under another name

@@ -9,11 +9,11 @@ use Rattle.records.specs.declared.{Glyph.Glyph as Words}
 use Rattle.records.proofs.{View.length-clusters, View.whole-same, View.cluster-of, View.seen-mask, View.seen-cluster, Renaming.append-map}
 use Rattle.lists.specs.declared.{Buffer.Buffer}
 use Rattle.lists.specs.{Account.readLevel, Account.Account, Account.outLen, Account.withDone, Cursor.dropping, State.accountOf, State.goneOf, State.Held, States.atPlaces, States.withLimitsOf}
-use Rattle.lists.proofs.{Accounts.output-clean, Accounts.out-of, SoundLaws.held-lengths, Copying.range-same, Simple.dropping-of}
+use Rattle.lists.proofs.{Accounts.output-clean, Accounts.out-of, Accounts.rest-of, SoundLaws.held-lengths, Copying.range-same, Simple.dropping-of}
 use Rattle.edits.specs.{Acts.Acts, Acts.Mergeful, Deletes.Deletable, Deletes.nextHas, Deletes.lastHas, Deletes.inheriting, Deleting.current, Deleting.inherited, Deleting.survives, Deleting.deleted, Deleting.mergedForward, Merging.merge, Merging.clustersMerge}
 use Rattle.lists.proofs.Outputs.{output-cong, gone-output, output-account, beyond}
 use Rattle.edits.proofs.Holding.{edit-take, edit-drop-behind, clusters-take}
-use Rattle.edits.proofs.Writings.{rest-first, rest-length, done-last}
+use Rattle.edits.proofs.Writings.{rest-first, done-last}
 use Rattle.edits.proofs.Replacements.{merge-places}
 
 -- ---- whether the cluster survives
@@ -34,7 +34,7 @@ module _ {b : Buffer} {run other : List ℕ} (v : Deletable b run other) where
   rest-two h = rest-one ∙ ap {B = List (Glyph ℕ)} (λ r. at-cursor ∷ r) (slice-cons (suc (b .idx .0)) (b .len .0) (glyphs run) zeroGlyph (omega arith) (omega (arith, v .held .len-in, v .held .all-in)))
 
   many : length (clusters (here .rest)) ≡ b .len .0 - b .idx .0
-  many = length-clusters (here .rest) ∙ rest-length (v .held) (v .output)
+  many = length-clusters (here .rest) ∙ rest-of b run other (v .held) (output-clean (b .phase) (v .output))
 
   done-many : length (clusters (here .done)) ≡ b .«out_len» .0
   unfolding outLen
@@ -115,13 +115,13 @@ module _ {b : Buffer} {run other : List ℕ} (v : Deletable b run other) where
     pub deletes-alone : b .«out_len» .0 ≤ 0 → b .len .0 - b .idx .0 ≤ 1 → deleted here ≡ dropping 1 here
     unfolding mergedForward
     deletes-alone k l =
-        let t : ltb 1 (length (here .rest)) ≡ false = le-ltb 1 (length (here .rest)) (omega (arith, rest-length (v .held) (v .output))) in
+        let t : ltb 1 (length (here .rest)) ≡ false = le-ltb 1 (length (here .rest)) (omega (arith, rest-of b run other (v .held) (output-clean (b .phase) (v .output)))) in
         forward k ∙ rw t
 
     pub deletes-merged : b .«out_len» .0 ≤ 0 → 1 < b .len .0 - b .idx .0 → deleted here ≡ dropping 1 (merge (clustersMerge (here .state .level)) 0 2 here)
     unfolding mergedForward
     deletes-merged k l =
-        let t : ltb 1 (length (here .rest)) ≡ true = lt-ltb 1 (length (here .rest)) (omega (arith, rest-length (v .held) (v .output))) in
+        let t : ltb 1 (length (here .rest)) ≡ true = lt-ltb 1 (length (here .rest)) (omega (arith, rest-of b run other (v .held) (output-clean (b .phase) (v .output)))) in
         let p : length (here .passed) ≡ 0 = ap (λ (a : Account ℕ). length (a .passed)) (output-account b run other (v .output)) in
         forward k ∙ rw (t, p)
 

@@ -190,9 +190,6 @@ module _ {b : Buffer} {run other : List ℕ} {s e : ℕ} (v : Mergeful b s e run
           account-within b (costs (e - s) (b .limits)) run′ other h (v .held .none)
           ∙ (m .account (stateOf b) ∙ ap (merged (s - goneOf b) (e - goneOf b)) (sym (account-within b (b .limits) run other h (v .held .none))))
 
-      pub within-behind : drop (b .len .0) (glyphs run′) ≡ drop (b .len .0) (glyphs run)
-      within-behind = merged-within (ready-within two) from-gone (out-low h) eg .behind
-
   pub width : e - goneOf b - (s - goneOf b) ≡ e - s
   width = omega (arith, v .start, v .order)
 

@@ -15,8 +15,8 @@ use Rattle.lists.proofs.SoundLaws.{soundness}
 use Rattle.records.proofs.Tests.{tested}
 use Rattle.edits.specs.{Acts.Acts, Acts.Mergeful, Charges.running, Charges.MergesRun, Flags.interior, Flags.sought, Merging.merge, Merging.merged, Merging.mergeInput, Merging.outsideInput, Merging.clustersMerge, Merging.graphemesMerge, Plans.WrittenApart, Plans.WrittenWithin}
 use Rattle.edits.specs.MergeActs.{mergeLimits, liesApart, MergeRoom, Merges, MergesInput}
-use Rattle.edits.proofs.{Chaining.acts-as, MergeLaws.merged-apart, WholeInputs.whole-gone}
-use Rattle.edits.proofs.MergeCalls.{acts-paid, acts-kept, in-acts, from-gone, ready-apart, apart-is, within-is, within-behind, width, flag-is, flag-behind, outside-of, in-mergeful, neither-left}
+use Rattle.edits.proofs.{Chaining.acts-as, MergeLaws.merged-apart, MergeLaws.merged-within, WholeInputs.whole-gone}
+use Rattle.edits.proofs.MergeCalls.{acts-paid, acts-kept, in-acts, from-gone, ready-apart, apart-is, ready-within, out-low, within-is, width, flag-is, flag-behind, outside-of, in-mergeful, neither-left}
 
 -- ---- what a merge costs
 module _ (merges : Bool) (n : ℕ) (l : Limits) where
@@ -71,21 +71,18 @@ module _ {b : Buffer} {run other : List ℕ} {s e : ℕ} (v : Mergeful b s e run
     at-apart {run′} {other′} h a lr lo w = let m = merged-apart (ready-apart v two) (from-gone v) w in costly h lr lo (m .behind) (m .out-behind) (apart-is v run′ other′ a m)
 
     at-within : {run′ : List ℕ} → merges ≡ true → liesApart b ≡ false → length run′ ≡ length run → WrittenWithin (b .idx .0) (b .len .0) (b .«out_len» .0) s e (glyphs run) (glyphs run′) → Merged run′ other
-    at-within {run′} h a lr w = costly h lr refl (within-behind v run′ a two (w .is)) refl (within-is v run′ a two (w .is))
+    at-within {run′} h a lr w = let m = merged-within (ready-within v two) (from-gone v) (out-low v a) (w .is) in costly h lr refl (m .behind) refl (within-is v run′ a two (w .is))
 
 -- ---- the act
 module _ {x apart merges : Bool} {level idx len outLen s e : ℕ} {f g : List ℕ} where
+  nothing : ((run other : List ℕ) → Merges apart merges level idx len outLen s e run other run other) → Sided x (Merges apart merges level idx len outLen s e) f g f g
+  nothing w = record { first = λ z. w f g; second = λ z. w g f }
+
   pub merges-few : e - s < 2 → Sided x (Merges apart merges level idx len outLen s e) f g f g
-  merges-few few = record { first = λ z. nothing f g; second = λ z. nothing g f }
-    where
-      nothing : (run other : List ℕ) → Merges apart merges level idx len outLen s e run other run other
-      nothing run other = record { acts = λ b a v. at-none v merges few; apart-only = λ z. refl }
+  merges-few few = nothing (λ run other. record { acts = λ b a v. at-none v merges few; apart-only = λ z. refl })
 
   pub merges-far : 2 ≤ e - s → merges ≡ false → 255 < e - s → Sided x (Merges apart merges level idx len outLen s e) f g f g
-  merges-far two h far = record { first = λ z. nothing f g; second = λ z. nothing g f }
-    where
-      nothing : (run other : List ℕ) → Merges apart merges level idx len outLen s e run other run other
-      nothing run other = record { acts = λ b a v. at-over v merges two h far; apart-only = λ z. refl }
+  merges-far two h far = nothing (λ run other. record { acts = λ b a v. at-over v merges two h far; apart-only = λ z. refl })
 
 module _ {apart merges : Bool} {level idx len outLen s e : ℕ} {run other run′ other′ : List ℕ} (two : 2 ≤ e - s) where
   pub merges-apart : merges ≡ true → apart ≡ true → length run′ ≡ length run → length other′ ≡ length other → WrittenApart idx len outLen s e (glyphs run) (glyphs other) (glyphs run′) (glyphs other′) → Merges apart merges level idx len outLen s e run other run′ other′

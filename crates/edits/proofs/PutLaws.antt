@@ -200,9 +200,6 @@ module _ {b : Buffer} {m n : ℕ} {run other : List ℕ} (v : Roomy b m n run ot
 
 -- ---- the merge of inputs before it
 module _ {i l o m n x : ℕ} {run other : List ℕ} (v : Replaceable i l o m n x run other) where
-  pub replace-first : (run₁ : List ℕ) → length run₁ ≡ length run → i < length (glyphs run₁)
-  replace-first run₁ e = let same : length (glyphs run₁) ≡ length (glyphs run) = glyphs-same run₁ run e in omega (arith, v .some, v .len-in)
-
   pub replace-puttable : (run₁ other₁ : List ℕ) → length run₁ ≡ length run → length other₁ ≡ length other → Puttable o n run₁ other₁
   replace-puttable run₁ other₁ lr lo =
       let er : length (glyphs run₁) ≡ length (glyphs run) = glyphs-same run₁ run lr in
@@ -214,4 +211,4 @@ pub replaces-of : {separate apart merges : Bool} {level i l o m n : ℕ} {gs run
 replaces-of {run₁ = run₁} {other₁ = other₁} {u = u} w lr lo eu q = record { run₁ = run₁; other₁ = other₁; run-long = lr; other-long = lo; merged = w; first = u; first-is = eu; wrote = q }
 
 -- for the proofs of functions
-pub ruleset put-laws = (wrote-apart, wrote-moved, wrote-within, moved-room, moved-one, one-apart, one-moved, one-within, reads-first, reads-last, outputs-of, own-number, other-number, replace-first, replace-puttable, replaces-of)
+pub ruleset put-laws = (wrote-apart, wrote-moved, wrote-within, moved-room, moved-one, one-apart, one-moved, one-within, reads-first, reads-last, outputs-of, own-number, other-number, replace-puttable, replaces-of)

@@ -7,11 +7,11 @@ use lib.{Dec.ltb, ListN.length, ListN.take, ListN.getD}
 use Rattle.records.specs.{WrongPhase, OutOfRange, BadOperand, Limits, Glyphs.Glyph, Glyphs.Info, Ranges.copies, View.glyphs, View.zeroGlyph}
 use Rattle.lists.specs.declared.{Buffer.Buffer}
 use Rattle.lists.specs.{Account.readLevel, Account.Account, Account.outputPhase, Account.hasOutput, Account.sized, Account.limiting, Account.withLimits, Cursor.dropping, Results.refused, Results.refuse_when_else_, State.accountOf, State.goneOf, State.Held, States.withLimitsOf}
-use Rattle.lists.proofs.{Accounts.output-clean, SoundLaws.held-lengths, Accounts.level-of, Outputs.gone-output}
+use Rattle.lists.proofs.{Accounts.output-clean, Accounts.rest-of, SoundLaws.held-lengths, Accounts.level-of, Outputs.gone-output}
 use Rattle.edits.specs.{Acts.Acts, Acts.Roomy, Acts.Mergeful, Acts.replacing, Merging.merge, Merging.clustersMerge, Replaces.replaced, Replaces.writesReplaced, Writing.written, Writing.model, Writing.replaceGlyphs}
 use Rattle.edits.proofs.Acting.{take-copies}
 use Rattle.edits.proofs.Chaining.{acts-as, acts-then}
-use Rattle.edits.proofs.Writings.{rest-first, rest-length, model-rest}
+use Rattle.edits.proofs.Writings.{rest-first, model-rest}
 
 module _ (b : Buffer) (run other : List ℕ) (o : outputPhase (b .phase) ≡ true) where
   -- a merge from the cursor on, counted in the run and counted in the input
@@ -86,7 +86,7 @@ module _ (capacity m n : ℕ) (gs : List ℕ) (a : Account ℕ) where
 
 module _ {b : Buffer} {run other : List ℕ} (v : Held b run other) (m : ℕ) (o : outputPhase (b .phase) ≡ true) where
   pub few : b .len .0 - b .idx .0 < max m 1 → ltb (length ((accountOf b run other) .rest)) (max m 1) ≡ true
-  few h = lt-ltb (length ((accountOf b run other) .rest)) (max m 1) (omega (arith, rest-length v o))
+  few h = lt-ltb (length ((accountOf b run other) .rest)) (max m 1) (omega (arith, rest-of b run other v (output-clean (b .phase) o)))
 
   pub enough : 1 ≤ b .len .0 - b .idx .0 → m ≤ b .len .0 - b .idx .0 → ltb (length ((accountOf b run other) .rest)) (max m 1) ≡ false
-  enough h k = le-ltb (length ((accountOf b run other) .rest)) (max m 1) (omega (arith, rest-length v o))
+  enough h k = le-ltb (length ((accountOf b run other) .rest)) (max m 1) (omega (arith, rest-of b run other v (output-clean (b .phase) o)))

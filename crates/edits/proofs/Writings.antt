@@ -73,22 +73,19 @@ module _ {b : Buffer} {run other : List ℕ} (v : Held b run other) (o : outputP
   pub rest-first : b .idx .0 < b .len .0 → (accountOf b run other) .rest ≡ getD (glyphs run) (b .idx .0) zeroGlyph ∷ slice (suc (b .idx .0)) (b .len .0) (glyphs run)
   rest-first h = rest-is ∙ slice-cons (b .idx .0) (b .len .0) (glyphs run) zeroGlyph h (omega (arith, v .len-in, v .all-in))
 
-  pub rest-length : length ((accountOf b run other) .rest) ≡ b .len .0 - b .idx .0
-  rest-length = rest-of b run other v (output-clean (b .phase) o)
-
   pub rest-none : b .len .0 ≤ b .idx .0 → (accountOf b run other) .rest ≡ []
   rest-none h =
       let e : b .len .0 ≡ b .idx .0 = omega (arith, v .idx-in) in
       rest-is ∙ (ap (λ (k : ℕ). slice (b .idx .0) k (glyphs run)) e ∙ slice-empty (b .idx .0) (glyphs run))
 
   all-length : length ((accountOf b run other) .rest) + outLen (accountOf b run other) ≡ b .len .0 - b .idx .0 + b .«out_len» .0
-  all-length = omega (arith, rest-length, out-of b run other v)
+  all-length = omega (arith, rest-of b run other v (output-clean (b .phase) o), out-of b run other v)
 
   pub rest-short : b .len .0 ≤ b .idx .0 → ltb (length ((accountOf b run other) .rest)) 1 ≡ true
-  rest-short h = lt-ltb (length ((accountOf b run other) .rest)) 1 (omega (arith, rest-length))
+  rest-short h = lt-ltb (length ((accountOf b run other) .rest)) 1 (omega (arith, rest-of b run other v (output-clean (b .phase) o)))
 
   pub rest-long : b .idx .0 < b .len .0 → ltb (length ((accountOf b run other) .rest)) 1 ≡ false
-  rest-long h = le-ltb (length ((accountOf b run other) .rest)) 1 (omega (arith, rest-length))
+  rest-long h = le-ltb (length ((accountOf b run other) .rest)) 1 (omega (arith, rest-of b run other v (output-clean (b .phase) o)))
 
   pub all-some : 0 < b .len .0 - b .idx .0 + b .«out_len» .0 → eqb (length ((accountOf b run other) .rest) + outLen (accountOf b run other)) 0 ≡ false
   all-some h = ne-eqb (length ((accountOf b run other) .rest) + outLen (accountOf b run other)) 0 (λ q. omega (arith, all-length, q))
