@@ -7,7 +7,7 @@ use Rattle.edits.proofs.deleting.delete_glyph.Statement.{statement}
 use Rattle.edits.proofs.deleting.delete_glyph.Tie as tie
 
 keep-cluster-requires : tie.Need-keep-cluster-requires
-keep-cluster-requires c κs = c .before .before .before .delete-verdict .ensures .asked (c .before .before .if1 .taken)
+keep-cluster-requires c κs = let at : tie.After-delete-verdict = search in at .delete-verdict .ensures .asked (search)
 
 same-length : tie.Need-same-length
 same-length c = ⊎-elim (λ w. search (ending, needs)) (λ w. search (ending, needs)) (c .before .if1 .came)

@@ -5,7 +5,7 @@ use Rattle.edits.proofs.flag_table.group_mask.Statement.{statement}
 use Rattle.edits.proofs.flag_table.group_mask.Tie as tie
 
 shared-slice-read-result : tie.Need-shared-slice-read-result
-shared-slice-read-result c = entry-in (c .before .pre .0) (omega (arith, c .before .pre .1))
+shared-slice-read-result c = let start : tie.Start = search in entry-in (start .pre .0) (omega (arith, start .pre .1))
 
 pub group-mask-spec : {M : Type 1} → statement M
 group-mask-spec =

@@ -12,7 +12,7 @@ same-length-2 : tie.Need-same-length-2
 same-length-2 c = ⊎-elim (λ w. search (ending, needs)) (λ w. search (ending, needs)) (c .before .if1 .came)
 
 returns : tie.Need-returns
-returns c = let d = input-graphemes (c .before .before .merge-verdict .ensures) (c .before .before .before .before .before .lies-apart .ensures) in ⊎-elim (λ w. search (ending, d)) (λ w. search (ending, d)) (c .before .if1 .came)
+returns c = let at : tie.After-merge-verdict = search in let before : tie.After-lies-apart = search in let d = input-graphemes (at .merge-verdict .ensures) (before .lies-apart .ensures) in ⊎-elim (λ w. search (ending, d)) (λ w. search (ending, d)) (c .before .if1 .came)
 
 pub merge-grapheme-clusters-spec : {M : Type 1} → statement M
 merge-grapheme-clusters-spec = tie.close (tie.spec (search needs) (search needs) (search needs) (λ c κs. search merge-calls) (search needs) same-length same-length-2 returns)

@@ -5,7 +5,7 @@ use Rattle.edits.proofs.numbers.number_at.Statement.{statement}
 use Rattle.edits.proofs.numbers.number_at.Tie as tie
 
 mul-word : tie.Need-mul-word
-mul-word c = omega (arith, given-count (c .before .before .before .args .numbers .now) (c .before .before .before .args .bytes .now))
+mul-word c = let start : tie.Start = search in omega (arith, given-count (start .args .numbers .now) (start .args .bytes .now))
 
 pub number-at-spec : {M : Type 1} → statement M
 number-at-spec =

@@ -3,8 +3,5 @@ use borrow.Author.Needs.{needs}
 use Rattle.edits.proofs.replace_acts.merge_inputs.Statement.{statement}
 use Rattle.edits.proofs.replace_acts.merge_inputs.Tie as tie
 
-returns-2 : tie.Need-returns-2
-returns-2 c = c .before .before .before .before .merge-by .ensures
-
 pub merge-inputs-spec : {M : Type 1} → statement M
-merge-inputs-spec = tie.close (tie.spec (search needs) (λ c. search merge-acts) (search needs) (search needs) (search needs) returns-2)
+merge-inputs-spec = tie.close (tie.spec (search needs) (λ c. search merge-acts) (search needs) (search needs) (search needs) (λ c. search needs))

@@ -5,7 +5,7 @@ use Rattle.edits.proofs.writing.output_info.Statement.{statement}
 use Rattle.edits.proofs.writing.output_info.Tie as tie
 
 put-by-requires : tie.Need-put-by-requires
-put-by-requires c κs = c .before .before .before .info-verdict .ensures .is .asked (c .before .before .if1 .taken)
+put-by-requires c κs = let at : tie.After-info-verdict = search in at .info-verdict .ensures .is .asked (search)
 
 same-length : tie.Need-same-length
 same-length c = ⊎-elim (λ w. search (ending, needs)) (λ w. search (ending, needs)) (c .before .if1 .came)
