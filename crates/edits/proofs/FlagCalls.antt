@@ -12,7 +12,8 @@ use Rattle.lists.proofs.{Accounts.spoiled-of, Accounts.len-of, Accounts.gone-of
 use Rattle.lists.proofs.SoundLaws.{soundness}
 use Rattle.records.proofs.Tests.{tested}
 use Rattle.edits.specs.declared.{InputBound.InputBound}
-use Rattle.edits.specs.{Acts.Acts, Acts.Mergeful, Bounds.inputBound, Bounds.inputNumber, Flags.interior, Flags.sought, Flags.flagInterior, Flags.flagAll, Flags.number, Flags.tooFar, Flags.startOf, Flags.endOf, Flags.plainForm, Flags.wantsConcat, Flags.wantsTatweel, Holding.holds, Marks.flaggedRun, Marks.Flaggable, Marks.Flagged, Marks.FlagsInput, Plans.InputRange, Plans.InputFrom}
+use Rattle.edits.specs.{Acts.Acts, Acts.Mergeful, Bounds.inputBound, Bounds.inputNumber, Flags.interior, Flags.sought, Flags.flagInterior, Flags.flagAll, Flags.number, Flags.tooFar, Flags.startOf, Flags.endOf, Flags.plainForm, Flags.wantsConcat, Flags.wantsTatweel, Holding.holds, Marks.flaggedRun, Marks.Flaggable, Marks.Flagged, Marks.FlagsInput}
+use Rattle.edits.proofs.MergeForms.{InputRange, InputFrom}
 use Rattle.edits.proofs.BoundLaws.{end-most}
 use Rattle.edits.proofs.FlagLaws.{flagged-all, flagged-all-within}
 use Rattle.edits.proofs.Places.{paired-flagged-all}

@@ -13,7 +13,7 @@ use Rattle.lists.specs.Account.{Account, State, input, withInput}
 use Rattle.lists.proofs.{Runs.heads-le, Runs.tails-le, Editing.edit-empty, Editing.edit-length}
 use Rattle.edits.specs.Flags.{interior, sought, seeksAll, flagInterior, flagAll}
 use Rattle.edits.specs.Holding.{holds, cut}
-use Rattle.edits.specs.Plans.{InputRange, InputFrom}
+use Rattle.edits.proofs.MergeForms.{InputRange, InputFrom}
 use Rattle.edits.proofs.MergePlans.{first-slice, last-slice}
 use Rattle.edits.proofs.Holding.{slice-take, slice-shift, clusters-take, clusters-drop, edit-take-before, edit-drop-behind}
 use Rattle.edits.proofs.Bridge.{input-is, holds-input, input-edit}

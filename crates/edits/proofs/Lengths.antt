@@ -7,7 +7,8 @@ use lib.{ListN.length, ListN.take, ListN.drop, ListN.set, Seq.take-suc-set, Seq.
 use Rattle.records.specs.{Phase, Plain, Output, Positions, Spoiled, Limits, Contradiction, WrongPhase, OverCapacity, Answer, Done, No, Answers.said, Glyphs.Glyph, Glyphs.blank, Counters.capacityOf, Counters.grown, Ranges.copies, View.glyphs, View.placements, View.wordsFrom}
 use Rattle.records.proofs.View.{length-glyphs, glyphs-same, beyond-glyphs, beyond-placements, whole-same}
 use Rattle.lists.specs.declared.{Buffer.Buffer, Verdict.Verdict, Room.Room, Room.the-variants.Fits, Room.the-variants.GivesUp, Room.the-variants.Over}
-use Rattle.lists.specs.{Account.readLevel, Account.Account, Account.positionsPhase, Account.spoiledPhase, Account.hasPositions, Account.len, Account.limiting, Account.sized, Account.failing, Account.withLimits, Account.withRest, Contract.isNo, Contract.MeetsIn, Results.Result, Results.refused, Results.accepted, Results.refuse_when_else_, Results.needing, State.shown, State.goneOf, State.stateOf, State.accountOf, State.sound, State.Soundness, State.Held, State.roomFor, States.reply, States.atPlaces, States.withLimitsOf, Verdicts.Leaves, Verdicts.failedBuffer, Verdicts.settled, Verdicts.Decided}
+use Rattle.lists.specs.{Account.readLevel, Account.Account, Account.positionsPhase, Account.spoiledPhase, Account.hasPositions, Account.len, Account.limiting, Account.sized, Account.failing, Account.withLimits, Account.withRest, Contract.isNo, Results.Result, Results.refused, Results.accepted, Results.refuse_when_else_, Results.needing, State.shown, State.goneOf, State.stateOf, State.accountOf, State.sound, State.Soundness, State.Held, State.roomFor, States.reply, States.atPlaces, States.withLimitsOf, Verdicts.Leaves, Verdicts.failedBuffer, Verdicts.settled, Verdicts.Decided}
+use Rattle.lists.proofs.Sides.{MeetsIn}
 use Rattle.lists.proofs.{Accounts.limits-of, Accounts.len-of, SizeLaws.fits-within, SizeLaws.needing-fits, Calls.in-accepted, Accounts.positions-of, Inner.room-gives-up, Inner.room-over, CursorCalls.sound-len}
 use Rattle.lists.proofs.Decisions.{Near, near-placed, leaves-is, result, room-of, gives-up, decided-unsound, decided-refused, decided-accepted, decided-does}
 use Rattle.lists.proofs.SoundLaws.{soundness}

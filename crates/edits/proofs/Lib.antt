@@ -20,6 +20,7 @@ pub mod MarkLaws
 pub mod MergeCalls
 pub mod MergeDecisions
 pub mod MergeEach
+pub mod MergeForms
 pub mod MergeLaws
 pub mod MergePlans
 pub mod OutCalls
@@ -48,4 +49,5 @@ pub mod TurnParts
 pub mod WholeCalls
 pub mod WholeInputs
 pub mod WriteCalls
+pub mod WriteForms
 pub mod Writings

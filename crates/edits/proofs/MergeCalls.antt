@@ -7,9 +7,11 @@ use lib.{Dec.eqb, Dec.ltb, ListN.length, ListN.take, ListN.drop, Seq.slice}
 use Rattle.records.specs.{Phase, Plain, Output, Positions, Spoiled, InputPlace, Done, Limits, Glyphs.Glyph, Counters.capacityOf, Counters.costs, Ranges.clusters, View.glyphs, View.placements, View.wordsFrom}
 use Rattle.records.proofs.View.{glyphs-same, whole-same, beyond-glyphs}
 use Rattle.lists.specs.declared.{Buffer.Buffer, Reply.Reply}
-use Rattle.lists.specs.{Account.readLevel, Account.Account, Account.State, Account.outputPhase, Account.spoiledPhase, Account.withLimits, Contract.MeetsIn, Results.accepted, Results.Result, State.shown, State.goneOf, State.stateOf, State.accountOf, State.Held, States.reply, States.withLimitsOf}
+use Rattle.lists.specs.{Account.readLevel, Account.Account, Account.State, Account.outputPhase, Account.spoiledPhase, Account.withLimits, Results.accepted, Results.Result, State.shown, State.goneOf, State.stateOf, State.accountOf, State.Held, States.reply, States.withLimitsOf}
+use Rattle.lists.proofs.Sides.{MeetsIn}
 use Rattle.lists.proofs.{Accounts.len-of, Calls.in-accepted, Accounts.gone-of}
-use Rattle.edits.specs.{Acts.Acts, Acts.Mergeful, Flags.interior, Flags.sought, Flags.flagInterior, Holding.holds, Holding.cut, Merging.merged, Merging.graphemesMerge, Merging.outsideInput, Plans.InputRange, Plans.InputFrom, Plans.Mergeable, Plans.MergedApart, Plans.MergedWithin, Plans.mergePlan, Plans.mergedRun, Plans.mergedTail}
+use Rattle.edits.specs.{Acts.Acts, Acts.Mergeful, Flags.interior, Flags.sought, Flags.flagInterior, Holding.holds, Holding.cut, Merging.merged, Merging.graphemesMerge, Merging.outsideInput, Plans.Mergeable, Plans.mergePlan, Plans.mergedRun, Plans.mergedTail}
+use Rattle.edits.proofs.MergeForms.{InputRange, InputFrom, MergedApart, MergedWithin}
 use Rattle.lists.proofs.Outputs.{goneIn, shown-output}
 use Rattle.lists.proofs.Inner.{held-paid}
 use Rattle.edits.proofs.MergeLaws.{mergeable, merged-within}

@@ -14,7 +14,8 @@ use Rattle.lists.proofs.Runs.{heads-le, tails-le}
 use Rattle.edits.specs.declared.{Merge.Merge}
 use Rattle.edits.specs.Merging.{mergeStart, mergeEnd, mergeTail, merged}
 use Rattle.edits.specs.Holding.{holds, paid, cut}
-use Rattle.edits.specs.Plans.{InputRange, Mergeable, InputFrom, MergedApart, MergedWithin, WrittenApart, WrittenWithin, mergePlan, tailStart, mergedRun, mergedTail}
+use Rattle.edits.specs.Plans.{Mergeable, WrittenApart, WrittenWithin, mergePlan, tailStart, mergedRun, mergedTail}
+use Rattle.edits.proofs.MergeForms.{InputRange, InputFrom, MergedApart, MergedWithin}
 use Rattle.edits.proofs.Holding.{edit-take, edit-take-before, edit-drop-behind, slice-shift, length-slice-le}
 use Rattle.edits.proofs.Bridge.{input-is, input-clusters, done-is, done-clusters, holds-limiting, input-edit, input-kept}
 

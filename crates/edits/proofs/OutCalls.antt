@@ -14,7 +14,8 @@ use Rattle.lists.proofs.Outputs.{gone-out, shown-output}
 use Rattle.lists.proofs.SoundLaws.{soundness}
 use Rattle.records.proofs.Tests.{tested}
 use Rattle.edits.specs.declared.{OutMerge.OutMerge}
-use Rattle.edits.specs.{Acts.Acts, Acts.OutMergeful, Holding.holds, Holding.cut, Merging.mergeOut, Merging.mergedOut, Merging.mergeDone, Merging.clustersMerge, Merging.graphemesMerge, Plans.outPlan, Plans.OutMergeable, Plans.OutWritable, Plans.WrittenOutApart, Plans.WrittenOutWithin}
+use Rattle.edits.specs.{Acts.Acts, Acts.OutMergeful, Holding.holds, Holding.cut, Merging.mergeOut, Merging.mergedOut, Merging.mergeDone, Merging.clustersMerge, Merging.graphemesMerge, Plans.outPlan, Plans.OutWritable, Plans.WrittenOutApart, Plans.WrittenOutWithin}
+use Rattle.edits.proofs.MergeForms.{OutMergeable}
 use Rattle.edits.specs.MergeActs.{mergeLimits, OutMergeRoom, OutMerges, MergesDone}
 use Rattle.edits.proofs.MergeCalls.{account-apart, account-within, acts-paid, acts-kept, in-acts}
 use Rattle.edits.proofs.MergeDecisions.{limits-paid, limits-few, limits-free}

@@ -12,7 +12,8 @@ use Rattle.lists.proofs.{Accounts.output-of, Accounts.out-of, Accounts.idx-of, 
 use Rattle.lists.proofs.SoundLaws.{soundness}
 use Rattle.records.proofs.Tests.{tested}
 use Rattle.edits.specs.declared.{InputBound.InputBound, DoneBound.DoneBound}
-use Rattle.edits.specs.{Acts.Acts, Bounds.inputBound, Bounds.inputNumber, Bounds.doneBound, Bounds.doneNumber, Flags.number, Flags.tooFar, Flags.startOf, Flags.endOf, Flags.outbufferForm, Flags.wantsConcat, Marks.flaggedPart, Marks.soughtOut, Marks.flagOut, Marks.OutFlaggable, Marks.OutFlagged, Marks.FlagsOut, Plans.OutRange}
+use Rattle.edits.specs.{Acts.Acts, Bounds.inputBound, Bounds.inputNumber, Bounds.doneBound, Bounds.doneNumber, Flags.number, Flags.tooFar, Flags.startOf, Flags.endOf, Flags.outbufferForm, Flags.wantsConcat, Marks.flaggedPart, Marks.soughtOut, Marks.flagOut, Marks.OutFlaggable, Marks.OutFlagged, Marks.FlagsOut}
+use Rattle.edits.proofs.MergeForms.{OutRange}
 use Rattle.edits.proofs.BoundLaws.{end-most}
 use Rattle.edits.proofs.FlagCalls.{idle-of, end-of}
 use Rattle.edits.proofs.OutFlags.{part-behind, middle-fits, out-flagged-apart, out-flagged-within}

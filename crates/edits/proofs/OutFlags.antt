@@ -11,7 +11,7 @@ use Rattle.lists.proofs.{Copying.drop-take, Editing.edit-length}
 use Rattle.edits.specs.Flags.{flagAll, flagOutInterior, flagOutAll}
 use Rattle.edits.specs.Marks.{flaggedPart, soughtOut, flagOut}
 use Rattle.edits.specs.Holding.{holds, cut}
-use Rattle.edits.specs.Plans.{OutRange}
+use Rattle.edits.proofs.MergeForms.{OutRange}
 use Rattle.edits.proofs.Holding.{slice-take, edit-take-before, edit-drop-behind}
 use Rattle.edits.proofs.Bridge.{input-is, input-clusters, done-is, done-clusters, holds-with, input-edit}
 use Rattle.edits.proofs.FlagLaws.{level-held, interior-in, interior-length, interior-behind, interior-before}

@@ -13,7 +13,8 @@ use Rattle.lists.proofs.Runs.{heads-le}
 use Rattle.edits.specs.declared.{OutMerge.OutMerge}
 use Rattle.edits.specs.Merging.{outStart, outEnd, outHead, mergedOut}
 use Rattle.edits.specs.Holding.{holds, paid, cut}
-use Rattle.edits.specs.Plans.{outPlan, headEnd, mergedOutput, mergedHead, OutMergeable, OutWritable, WrittenOutApart, WrittenOutWithin, MergedOutApart, MergedOutWithin}
+use Rattle.edits.specs.Plans.{outPlan, headEnd, mergedOutput, mergedHead, OutWritable, WrittenOutApart, WrittenOutWithin}
+use Rattle.edits.proofs.MergeForms.{OutMergeable, MergedOutApart, MergedOutWithin}
 use Rattle.edits.proofs.MergePlans.{first-slice, last-slice}
 use Rattle.edits.proofs.Holding.{slice-take, edit-take, edit-take-before, edit-drop-behind}
 use Rattle.edits.proofs.Bridge.{input-is, input-clusters, done-is, done-clusters, holds-limiting, input-edit, input-kept}

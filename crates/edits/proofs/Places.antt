@@ -11,7 +11,8 @@ use Rattle.edits.specs.declared.{Merge.Merge}
 use Rattle.lists.specs.{Account.State, Account.spoiledPhase, State.shown}
 use Rattle.edits.specs.Flags.{interior, sought, flagInterior, flagAll}
 use Rattle.edits.specs.Holding.{holds, cut}
-use Rattle.edits.specs.Plans.{InputRange, Mergeable, InputFrom, MergedWithin, mergePlan, tailStart, mergedRun, mergedTail}
+use Rattle.edits.specs.Plans.{Mergeable, mergePlan, tailStart, mergedRun, mergedTail}
+use Rattle.edits.proofs.MergeForms.{InputRange, InputFrom, MergedWithin}
 use Rattle.edits.proofs.MergeLaws.{plan-order, tail-most, merged-within}
 use Rattle.edits.proofs.FlagLaws.{flagged-within, flagged-all-within}
 

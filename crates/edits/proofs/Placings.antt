@@ -7,7 +7,8 @@ use lib.{Dec.leb, ListN.length, ListN.take, ListN.drop, ListN.getD, ListN.set, S
 use Rattle.records.specs.{Phase, Plain, Output, Positions, Spoiled, InputPlace, Position, Contradiction, WrongPhase, OutOfRange, Done, No, Glyphs.Glyph, Glyphs.Info, Glyphs.zeroPosition, Ranges.edit, View.glyphs, View.placements, View.paired, View.wordsFrom}
 use Rattle.records.proofs.View.{glyphs-same, placements-glyphs, length-paired, beyond-placements, whole-same}
 use Rattle.lists.specs.declared.{Buffer.Buffer, Verdict.Verdict}
-use Rattle.lists.specs.{Account.Account, Account.State, Account.outputPhase, Account.positionsPhase, Account.spoiledPhase, Account.hasPositions, Account.input, Account.len, Account.withInput, Account.withLimits, Contract.MeetsIn, Results.refused, Results.accepted, Results.refuse_when_else_, State.shown, State.goneOf, State.stateOf, State.accountOf, State.sound, State.Held, States.reply, States.withLimitsOf, Verdicts.Leaves}
+use Rattle.lists.specs.{Account.Account, Account.State, Account.outputPhase, Account.positionsPhase, Account.spoiledPhase, Account.hasPositions, Account.input, Account.len, Account.withInput, Account.withLimits, Results.refused, Results.accepted, Results.refuse_when_else_, State.shown, State.goneOf, State.stateOf, State.accountOf, State.sound, State.Held, States.reply, States.withLimitsOf, Verdicts.Leaves}
+use Rattle.lists.proofs.Sides.{MeetsIn}
 use Rattle.lists.proofs.{Accounts.len-of, SoundLaws.sound-held, SoundLaws.held-turned, Accounts.positions-of, Calls.in-accepted, Decisions.near-same, Decisions.decided-unsound, Decisions.decided-refused, Decisions.decided-does}
 use Rattle.edits.specs.{Fills.repositioned, Fills.Placeable, Fills.Placed, Fills.Places, Holding.holds, WholeRun.placed, WholeRun.place}
 use Rattle.lists.proofs.Outputs.{goneIn}

@@ -11,7 +11,8 @@ use Rattle.records.proofs.View.{glyphs-same, whole-same, seen-number}
 use Rattle.lists.specs.declared.{Buffer.Buffer}
 use Rattle.lists.specs.{Account.Account, Account.outputPhase, Account.withGone, Copied.copied, Cursor.dropping, State.accountOf, State.Held, States.atPlaces, States.apartBuffer, Verdicts.Sided}
 use Rattle.lists.proofs.{Copying.copied-none, Copying.copied-more, Copying.take-copied, Copying.drop-copied, Copying.range-same, Outputs.output, Outputs.output-cong, Outputs.output-places, Outputs.output-account, Outputs.beyond}
-use Rattle.edits.specs.{Acts.Acts, Acts.Roomy, MergeActs.Merges, Puts.overtakes, Puts.putBuffer, Puts.Puttable, Puts.Wrote, Puts.Replaceable, Puts.Replaces, Puts.modelAt, Puts.Modelled, Puts.Outputs, Writing.written}
+use Rattle.edits.specs.{Acts.Acts, MergeActs.Merges, Puts.overtakes, Puts.Puttable, Puts.Wrote, Puts.Replaceable, Puts.Replaces, Puts.modelAt, Puts.Modelled, Puts.Outputs, Writing.written}
+use Rattle.edits.proofs.WriteForms.{Roomy, putBuffer}
 
 -- ---- where the glyphs went
 module _ {separate apart : Bool} {to n : ℕ} {new : List (Glyph ℕ)} {run other : List ℕ} where

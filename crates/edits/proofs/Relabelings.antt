@@ -10,7 +10,8 @@ use Rattle.records.specs.{Phase, Plain, Output, Positions, Spoiled, Limits, Pos
 use Rattle.records.proofs.View.{glyphs-same, cluster-of}
 use Rattle.records.proofs.Pairs.{paired-take}
 use Rattle.lists.specs.declared.{Buffer.Buffer, Verdict.Verdict}
-use Rattle.lists.specs.{Account.Account, Account.spoiledPhase, Account.len, Account.limiting, Account.paying, Account.withRest, Contract.MeetsIn, Results.accepted, Results.refuse_when_else_, State.shown, State.accountOf, State.sound, States.reply, States.withLimitsOf, Verdicts.Leaves, Verdicts.settled, Verdicts.Decided}
+use Rattle.lists.specs.{Account.Account, Account.spoiledPhase, Account.len, Account.limiting, Account.paying, Account.withRest, Results.accepted, Results.refuse_when_else_, State.shown, State.accountOf, State.sound, States.reply, States.withLimitsOf, Verdicts.Leaves, Verdicts.settled, Verdicts.Decided}
+use Rattle.lists.proofs.Sides.{MeetsIn}
 use Rattle.lists.proofs.{Accounts.len-of, Accounts.limited-of}
 use Rattle.lists.proofs.Decisions.{near-same, near-limits, leaves-as, accepts, decided-unsound, decided-refused, decided-accepted, decided-does}
 use Rattle.lists.proofs.SoundLaws.{soundness}

@@ -6,11 +6,13 @@ use borrow.Author.Tests.{le-ltb, lt-ltb}
 use lib.{ListN.length}
 use Rattle.records.specs.{Contradiction, WrongPhase, OutOfRange, BadOperand, Done, No, Limits, Counters.capacityOf, Counters.grown, Glyphs.Info, Ranges.copies, View.wordsFrom}
 use Rattle.lists.specs.declared.{Buffer.Buffer, Reply.Reply, Verdict.Verdict, Room.the-variants.Fits}
-use Rattle.lists.specs.{Account.Account, Account.readLevel, Account.outputPhase, Account.outLen, Account.sized, Account.limiting, Account.withLimits, Contract.Meets, Contract.MeetsIn, Cursor.dropping, Moving.SyncOutput, State.accountOf, State.goneOf, State.sound, State.Soundness, State.Held, State.roomFor, States.reply, States.withLimitsOf, Verdicts.Leaves, Verdicts.Sized, Verdicts.Sided, Verdicts.wroteBuffer, Verdicts.settled}
+use Rattle.lists.specs.{Account.Account, Account.readLevel, Account.outputPhase, Account.outLen, Account.sized, Account.limiting, Account.withLimits, Contract.Meets, Cursor.dropping, State.accountOf, State.goneOf, State.sound, State.Soundness, State.Held, State.roomFor, States.reply, States.withLimitsOf, Verdicts.Leaves, Verdicts.Sized, Verdicts.Sided, Verdicts.wroteBuffer, Verdicts.settled}
+use Rattle.lists.proofs.Sides.{MeetsIn, SyncOutput}
 use Rattle.lists.proofs.{Accounts.output-of, SoundLaws.sound-held, Calls.in-call, SoundLaws.is-sound, Decisions.Lying, Decisions.near-placed, Decisions.decided-unsound, Decisions.decided-refused, Decisions.decided-sized, Decisions.end-acted, Decisions.end-still, Inner.sized-of}
 use Rattle.lists.proofs.SoundLaws.{soundness}
 use Rattle.records.proofs.Tests.{tested}
-use Rattle.edits.specs.{Acts.Acts, Acts.given, Acts.replacing, MergeActs.mergeLimits, Merging.merge, Merging.clustersMerge, Puts.overtakes, Puts.limited, Puts.costing, Puts.Writes, Puts.putBuffer, Puts.Replaceable, Puts.Replaces, Puts.OutputDecided, Puts.ReplaceDecided, Replaces.replaced, Replaces.writesReplaced, Writing.written, Writing.model, Writing.writing, Writing.replaceGlyphs}
+use Rattle.edits.specs.{Acts.Acts, Acts.given, Acts.replacing, MergeActs.mergeLimits, Merging.merge, Merging.clustersMerge, Puts.overtakes, Puts.limited, Puts.costing, Puts.Writes, Puts.Replaceable, Puts.Replaces, Puts.OutputDecided, Puts.ReplaceDecided, Replaces.replaced, Writing.written, Writing.model, Writing.writing, Writing.replaceGlyphs}
+use Rattle.edits.proofs.WriteForms.{putBuffer, writesReplaced}
 use Rattle.edits.proofs.Acting.{length-copies}
 use Rattle.edits.proofs.GivenLaws.{given-none}
 use Rattle.edits.proofs.PutLaws.{stays-behind, wrote-acts}

@@ -8,7 +8,8 @@ use Rattle.records.specs.{WrongPhase, OutOfRange, BadOperand, Limits, Glyphs.Gl
 use Rattle.lists.specs.declared.{Buffer.Buffer}
 use Rattle.lists.specs.{Account.readLevel, Account.Account, Account.outputPhase, Account.hasOutput, Account.sized, Account.limiting, Account.withLimits, Cursor.dropping, Results.refused, Results.refuse_when_else_, State.accountOf, State.goneOf, State.Held, States.withLimitsOf}
 use Rattle.lists.proofs.{Accounts.output-clean, Accounts.rest-of, SoundLaws.held-lengths, Accounts.level-of, Outputs.gone-output}
-use Rattle.edits.specs.{Acts.Acts, Acts.Roomy, Acts.Mergeful, Acts.replacing, Merging.merge, Merging.clustersMerge, Replaces.replaced, Replaces.writesReplaced, Writing.written, Writing.model, Writing.replaceGlyphs}
+use Rattle.edits.specs.{Acts.Acts, Acts.Mergeful, Acts.replacing, Merging.merge, Merging.clustersMerge, Replaces.replaced, Writing.written, Writing.model, Writing.replaceGlyphs}
+use Rattle.edits.proofs.WriteForms.{Roomy, writesReplaced}
 use Rattle.edits.proofs.Acting.{take-copies}
 use Rattle.edits.proofs.Chaining.{acts-as, acts-then}
 use Rattle.edits.proofs.Writings.{rest-first, model-rest}

@@ -7,7 +7,8 @@ use Rattle.records.specs.{Phase, Position, Contradiction, WrongPhase, Value, No
 use Rattle.records.proofs.View.{length-paired}
 use Rattle.records.proofs.Pairs.{paired-take, paired-append}
 use Rattle.lists.specs.declared.{Buffer.Buffer, Verdict.Verdict, Room.the-variants.Fits}
-use Rattle.lists.specs.{Account.Account, Account.positionsPhase, Account.len, Account.sized, Account.failing, Account.withRest, Contract.MeetsIn, Filled.filled, Results.answered, Results.refuse_when_else_, Results.needing, State.shown, State.accountOf, State.sound, State.roomFor, States.reply, Verdicts.Leaves}
+use Rattle.lists.specs.{Account.Account, Account.positionsPhase, Account.len, Account.sized, Account.failing, Account.withRest, Filled.filled, Results.answered, Results.refuse_when_else_, Results.needing, State.shown, State.accountOf, State.sound, State.roomFor, States.reply, Verdicts.Leaves}
+use Rattle.lists.proofs.Sides.{MeetsIn}
 use Rattle.lists.proofs.{Accounts.len-of, Calls.in-answered, Filling.take-filled, Filling.drop-filled}
 use Rattle.lists.proofs.Decisions.{decided-unsound, decided-refused}
 use Rattle.lists.proofs.SoundLaws.{soundness}

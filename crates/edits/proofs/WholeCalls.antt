@@ -6,7 +6,8 @@ use lib.ListN.{length}
 use Rattle.records.specs.{Phase, Contradiction, WrongPhase, Done, No, Glyphs.Glyph, View.glyphs, View.placements}
 use Rattle.records.proofs.View.{glyphs-same, placements-glyphs}
 use Rattle.lists.specs.declared.{Buffer.Buffer, Reply.Reply, Verdict.Verdict}
-use Rattle.lists.specs.{Account.Account, Contract.Meets, Contract.MeetsIn, Results.Result, Results.refused, State.sound, States.reply, Verdicts.leaving, Verdicts.Leaves, Verdicts.settled, Verdicts.Decided}
+use Rattle.lists.specs.{Account.Account, Contract.Meets, Results.Result, Results.refused, State.sound, States.reply, Verdicts.leaving, Verdicts.Leaves, Verdicts.settled, Verdicts.Decided}
+use Rattle.lists.proofs.Sides.{MeetsIn}
 use Rattle.lists.proofs.SoundLaws.{sound-held, soundness}
 use Rattle.lists.proofs.Decisions.{Lying, Refuses, leaves-is, near-same, decided-unsound, decided-refused, decided-does}
 use Rattle.edits.specs.{WholeRun.notWhole, Wholes.WholeInput, Wholes.RunRoom, Wholes.RunOf, Wholes.wholeVerdict, Wholes.TakesWhole, Wholes.RunBecomes}

@@ -7,7 +7,8 @@ use lib.{Dec.ltb, ListN.length, ListN.take, ListN.drop}
 use Rattle.records.specs.{WrongPhase, No, Counters.capacityOf, Glyphs.Glyph, View.glyphs, View.placements}
 use Rattle.records.proofs.View.{beyond-glyphs, beyond-placements, whole-same}
 use Rattle.lists.specs.declared.{Buffer.Buffer, Reply.Reply}
-use Rattle.lists.specs.{Account.Account, Account.outputPhase, Account.spoiledPhase, Account.idx, Account.withRest, Contract.MeetsIn, Results.Result, Results.refused, State.shown, State.goneOf, State.stateOf, State.accountOf, State.Held, States.reply}
+use Rattle.lists.specs.{Account.Account, Account.outputPhase, Account.spoiledPhase, Account.idx, Account.withRest, Results.Result, Results.refused, State.shown, State.goneOf, State.stateOf, State.accountOf, State.Held, States.reply}
+use Rattle.lists.proofs.Sides.{MeetsIn}
 use Rattle.lists.proofs.{Outputs.gone-without, Accounts.output-of, Accounts.spoiled-of, Accounts.idx-of, Accounts.rest-of, SoundLaws.held-lengths, Calls.in-refused}
 use Rattle.records.proofs.Tests.{tested}
 use Rattle.edits.specs.{Acts.Acts, WholeRun.notWhole, Wholes.WholeInput}

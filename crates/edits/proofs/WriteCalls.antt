@@ -8,11 +8,13 @@ use Rattle.records.specs.{Contradiction, WrongPhase, OutOfRange, OverCapacity, 
 use Rattle.records.specs.declared.{Glyph.Glyph as Words}
 use Rattle.records.proofs.View.{length-glyphs, glyphs-same}
 use Rattle.lists.specs.declared.{Buffer.Buffer, Verdict.Verdict, Room.Room, Room.the-variants.Fits, Room.the-variants.GivesUp, Room.the-variants.Over}
-use Rattle.lists.specs.{Account.Account, Account.outputPhase, Account.outLen, Account.sized, Contract.MeetsIn, Cursor.dropping, Moving.SyncOutput, Results.Result, State.accountOf, State.sound, State.Soundness, State.Held, State.roomFor, States.reply, States.withLimitsOf, States.atPlaces, States.apartBuffer, Verdicts.Leaves, Verdicts.Sized, Verdicts.bySize, Verdicts.wroteBuffer, Verdicts.failedBuffer, Verdicts.settledBuffer, Verdicts.settled, Verdicts.Decided}
+use Rattle.lists.specs.{Account.Account, Account.outputPhase, Account.outLen, Account.sized, Cursor.dropping, Results.Result, State.accountOf, State.sound, State.Soundness, State.Held, State.roomFor, States.reply, States.withLimitsOf, States.atPlaces, States.apartBuffer, Verdicts.Leaves, Verdicts.Sized, Verdicts.bySize, Verdicts.wroteBuffer, Verdicts.failedBuffer, Verdicts.settledBuffer, Verdicts.settled, Verdicts.Decided}
+use Rattle.lists.proofs.Sides.{MeetsIn, SyncOutput}
 use Rattle.lists.proofs.{SoundLaws.sound-held, SizeLaws.fits-within, Accounts.output-of, Calls.in-call, SoundLaws.is-sound, Decisions.Lying, Decisions.Needs, Decisions.Rooms, Decisions.room-of, Decisions.meets-sided, Decisions.decided-unsound, Decisions.decided-refused, Decisions.decided-accepted, Decisions.near-limits, Decisions.decided-sized, Decisions.leaves-is, Inner.sized-of}
 use Rattle.lists.proofs.SoundLaws.{soundness}
 use Rattle.records.proofs.Tests.{tested}
-use Rattle.edits.specs.{Acts.Acts, Acts.writesOne, Puts.overtakes, Puts.lying, Puts.moving, Puts.limited, Puts.costing, Puts.sizeAlone, Puts.Writes, Puts.putBuffer, Puts.Puttable, Puts.Wrote, Puts.modelAt, Puts.Outputable, Puts.Outputs, Puts.OutputDecided, Puts.InfoDecided, Writing.written, Writing.model, Writing.writing, Writing.copyGlyph, Writing.outputGlyph}
+use Rattle.edits.specs.{Acts.Acts, Puts.overtakes, Puts.lying, Puts.moving, Puts.limited, Puts.costing, Puts.sizeAlone, Puts.Writes, Puts.Puttable, Puts.Wrote, Puts.modelAt, Puts.Outputable, Puts.Outputs, Puts.OutputDecided, Puts.InfoDecided, Writing.written, Writing.model, Writing.writing, Writing.copyGlyph, Writing.outputGlyph}
+use Rattle.edits.proofs.WriteForms.{writesOne, putBuffer}
 use Rattle.edits.proofs.PutLaws.{stays-behind, wrote-acts, model-first, model-last}
 use Rattle.edits.proofs.Writings.{writing-room, writing-done, size-done, grown-roomy, out-size, dropping-none, rest-first, rest-none, rest-short, rest-long, done-last, all-some, all-none, model-rest, model-done, copy-none, copy-outside, copy-writes, glyph-none, glyph-writes, glyph-sizes, info-none, info-writes}
 

@@ -7,9 +7,11 @@ use lib.{Dec.eqb, Dec.ltb, ListN.length, ListN.take, ListN.getD, Seq.slice, Seq.
 use Rattle.records.specs.{WrongPhase, OutOfRange, Done, Limits, Counters.capacityOf, Counters.grown, Glyphs.Glyph, Glyphs.Info, Glyphs.blank, Ranges.copies, Ranges.infos, View.glyphs, View.zeroGlyph, View.wordsFrom}
 use Rattle.records.proofs.{View.length-glyphs, Renaming.append-map}
 use Rattle.lists.specs.declared.{Buffer.Buffer, Reply.Reply, Room.the-variants.Fits}
-use Rattle.lists.specs.{Account.Account, Account.outputPhase, Account.withGone, Account.hasOutput, Account.outLen, Account.failing, Account.sized, Contract.MeetsIn, Cursor.dropping, Moving.SyncOutput, Results.refused, Results.accepted, Results.refuse_when_else_, Results.needing, State.accountOf, State.Held, State.roomFor, States.reply, States.withLimitsOf}
+use Rattle.lists.specs.{Account.Account, Account.outputPhase, Account.withGone, Account.hasOutput, Account.outLen, Account.failing, Account.sized, Cursor.dropping, Results.refused, Results.accepted, Results.refuse_when_else_, Results.needing, State.accountOf, State.Held, State.roomFor, States.reply, States.withLimitsOf}
+use Rattle.lists.proofs.Sides.{MeetsIn, SyncOutput}
 use Rattle.lists.proofs.{Accounts.output-clean, Accounts.limits-of, Accounts.out-of, Accounts.rest-of, SizeLaws.needing-fits, SizeLaws.fits-within, Calls.in-accepted}
-use Rattle.edits.specs.{Acts.Roomy, Acts.writesOne, Writing.written, Writing.model, Writing.writing, Writing.copyGlyph, Writing.outputGlyph, Writing.outputInfo}
+use Rattle.edits.specs.{Writing.written, Writing.model, Writing.writing, Writing.copyGlyph, Writing.outputGlyph, Writing.outputInfo}
+use Rattle.edits.proofs.WriteForms.{Roomy, writesOne}
 use Rattle.lists.proofs.Inner.{limits-side, sized-of, held-limits}
 use Rattle.lists.proofs.SoundLaws.{out-fits}
 use Rattle.lists.proofs.Outputs.{output, shown-output}

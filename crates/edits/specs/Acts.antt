@@ -15,13 +15,6 @@ pub record Acts (h : Account ℕ → Account ℕ) (b : Buffer) (run other : List
   pub other-beyond : wordsFrom (b .limits .allocated) other′ ≡ wordsFrom (b .limits .allocated) other
   pub held : Held r run other
 
--- the size for num-out glyphs is there, in place of num-in of the input
-pub record Roomy (b : Buffer) (num-in num-out : ℕ) (run other : List ℕ) : Type 0 where
-  pub held : Held b run other
-  pub output : outputPhase (b .phase) ≡ true
-  pub in-len : b .idx .0 + num-in ≤ b .len .0
-  pub in-size : b .«out_len» .0 + num-out ≤ b .limits .allocated
-
 -- glyph numbers that are given as numbers, then as bytes
 abbrev pub given : List ℕ → List ℕ → List ℕ
 given numbers bytes = numbers ++ wordsOf bytes
@@ -29,10 +22,6 @@ given numbers bytes = numbers ++ wordsOf bytes
 -- copies with these words and numbers, in place of num-in of the input
 unfoldable pub replacing : Info → List ℕ → ℕ → Account ℕ → Account ℕ
 replacing i gs num-in a = dropping num-in (written (copies i gs) a)
-
--- one glyph written, after its size
-unfoldable pub writesOne : Info → ℕ → ℕ → Account ℕ → Result ℕ
-writesOne i number capacity a = writing capacity 1 (written (copies i (number ∷ [])) (sized (outLen a + 1) a)) a
 
 -- s..e is a range of the input, in a phase that has lists
 pub record Mergeful (b : Buffer) (s e : ℕ) (run other : List ℕ) : Type 0 where

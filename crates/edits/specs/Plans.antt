@@ -8,13 +8,6 @@ use Rattle.edits.specs.declared.{Merge.Merge, OutMerge.OutMerge}
 use Rattle.edits.specs.Merging.{mergeStart, mergeEnd, merged, outStart, outEnd, mergedOut}
 use Rattle.edits.specs.Holding.{holds, paid, cut}
 
--- s..e is a range of the first len glyphs of the run, which may be empty
-pub record InputRange (run out : List (Glyph ℕ)) (len outLen s e : ℕ) : Type 0 where
-  pub order : s ≤ e
-  pub end : e ≤ len
-  pub fits : len ≤ length run
-  pub out-fits : outLen ≤ length out
-
 -- ---- a merge in the input
 -- s..e is a range of the first len glyphs, and m its least cluster
 pub record MergeRange (l : List (Glyph ℕ)) (len s e m : ℕ) : Type 0 where
@@ -54,24 +47,6 @@ pub record WrittenApart (idx len outLen s e : ℕ) (run out run′ out′ : List
 pub record WrittenWithin (idx len outLen s e : ℕ) (run run′ : List (Glyph ℕ)) : Type 0 where
   pub is : run′ ≡ mergedRun (mergePlan idx s e (cut len run)) (mergedTail (mergePlan idx s e (cut len run)) outLen run)
 
--- the input goes from place `gone` to place `len` of the run, the cursor is at idx, and s is in the input
-pub record InputFrom (gone idx len s : ℕ) : Type 0 where
-  pub cursor : gone ≤ idx
-  pub inside : idx ≤ len
-  pub start : gone ≤ s
-
--- the account is the merged one, and no glyph outside the lists has changed
-pub record MergedApart (gone idx len outLen s e : ℕ) (run out run′ out′ : List (Glyph ℕ)) : Type 0 where
-  pub account : (k : State) → holds run′ out′ gone idx len outLen (paid (e - s) k) ≡ merged (s - gone) (e - gone) (holds run out gone idx len outLen k)
-  pub before : take gone run′ ≡ take gone run
-  pub behind : drop len run′ ≡ drop len run
-  pub out-behind : drop outLen out′ ≡ drop outLen out
-
-pub record MergedWithin (gone idx len outLen s e : ℕ) (run run′ : List (Glyph ℕ)) : Type 0 where
-  pub account : (k : State) → holds run′ run′ gone idx len outLen (paid (e - s) k) ≡ merged (s - gone) (e - gone) (holds run run gone idx len outLen k)
-  pub between : slice outLen gone run′ ≡ slice outLen gone run
-  pub behind : drop len run′ ≡ drop len run
-
 -- ---- a merge in the output
 unfoldable pub outPlan : ℕ → ℕ → List ℕ → OutMerge
 outPlan s e ds =
@@ -87,14 +62,6 @@ mergedOutput p out = edit (p .from) (p .to) (setCluster (p .lowest) 0) out
 unfoldable pub mergedHead : OutMerge → ℕ → ℕ → List (Glyph ℕ) → List (Glyph ℕ)
 mergedHead p idx len run = edit idx (headEnd (p .head) (p .closer) idx (slice idx len (clusters run))) (setCluster (p .lowest) 0) run
 
--- s..e is a range of the output, of at least one glyph
-pub record OutMergeable (run out : List (Glyph ℕ)) (idx len outLen s e : ℕ) : Type 0 where
-  pub order : s < e
-  pub end : e ≤ outLen
-  pub out-fits : outLen ≤ length out
-  pub inside : idx ≤ len
-  pub fits : len ≤ length run
-
 -- a plan that can be written, and what is written by it: with the output apart, and in the run
 pub record OutWritable (p : OutMerge) (idx len : ℕ) (run out : List (Glyph ℕ)) : Type 0 where
   pub order : p .from ≤ p .to
@@ -108,22 +75,3 @@ pub record WrittenOutApart (p : OutMerge) (idx len : ℕ) (run out run′ out′
 
 pub record WrittenOutWithin (p : OutMerge) (idx len : ℕ) (run run′ : List (Glyph ℕ)) : Type 0 where
   pub is : run′ ≡ mergedOutput p (mergedHead p idx len run)
-
-pub record MergedOutApart (idx len outLen s e : ℕ) (run out run′ out′ : List (Glyph ℕ)) : Type 0 where
-  pub account : (k : State) → holds run′ out′ idx idx len outLen (paid (e - s) k) ≡ mergedOut s e (holds run out idx idx len outLen k)
-  pub before : take idx run′ ≡ take idx run
-  pub behind : drop len run′ ≡ drop len run
-  pub out-behind : drop outLen out′ ≡ drop outLen out
-
-pub record MergedOutWithin (idx len outLen s e : ℕ) (run run′ : List (Glyph ℕ)) : Type 0 where
-  pub account : (k : State) → holds run′ run′ idx idx len outLen (paid (e - s) k) ≡ mergedOut s e (holds run run idx idx len outLen k)
-  pub between : slice outLen idx run′ ≡ slice outLen idx run
-  pub behind : drop len run′ ≡ drop len run
-
--- ---- the outbuffer forms: from place s of the output on, up to place e of the run
-pub record OutRange (run out : List (Glyph ℕ)) (idx len outLen s e : ℕ) : Type 0 where
-  pub order : s ≤ outLen
-  pub out-fits : outLen ≤ length out
-  pub start : idx ≤ e
-  pub end : e ≤ len
-  pub fits : len ≤ length run

@@ -36,10 +36,6 @@ sizeAlone v = record { idx = v .idx; len = v .len; «out_len» = 0; limits = v .
 pub record Writes (capacity : ℕ) (b : Buffer) (i o : ℕ) (acts : Bool) (v : Verdict) : Type 0 where
   pub is : v ≡ moving (overtakes b i o) (bySize (roomFor capacity (b .«out_len» .0 + o) (b .limits)) b i o acts)
 
--- the state that is left, of one that has its limits
-unfoldable pub putBuffer : Bool → ℕ → ℕ → Buffer → Buffer
-putBuffer x i o b = let y = atPlaces (b .idx .0 + i) (b .len .0) (b .«out_len» .0 + o) b in cond x (apartBuffer y) y
-
 -- n glyphs have room behind an output of `to`, in either slice
 pub record Puttable (to n : ℕ) (f s : List ℕ) : Type 0 where
   pub same : length (glyphs f) ≡ length (glyphs s)

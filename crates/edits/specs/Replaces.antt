@@ -8,7 +8,3 @@ use Rattle.edits.specs.{Acts.replacing, Merging.merge, Merging.clustersM
 -- the inputs merge, then copies of the first stand in their place
 unfoldable pub replaced : ℕ → ℕ → List ℕ → Account ℕ → Account ℕ
 replaced num-in num-out gs a = let b = merge (clustersMerge (a .state .level)) 0 num-in a in replacing (model b) (take num-out gs) num-in b
-
--- the same after its size
-unfoldable pub writesReplaced : ℕ → ℕ → List ℕ → ℕ → Account ℕ → Result ℕ
-writesReplaced num-in num-out gs capacity a = writing capacity num-out (replaced num-in num-out gs (sized (outLen a + num-out) a)) a

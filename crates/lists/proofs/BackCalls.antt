@@ -8,10 +8,11 @@ use Rattle.records.proofs.View.{length-glyphs, glyphs-same}
 use Rattle.lists.specs.declared.{Buffer.Buffer, Verdict.Verdict, Room.Room, Room.the-variants.Fits, Room.the-variants.GivesUp, Room.the-variants.Over}
 use Rattle.lists.specs.Copied.{copied}
 use Rattle.lists.specs.Cursor.{growing}
-use Rattle.lists.specs.State.{roomFor}
+use Rattle.lists.specs.Account.{outputPhase}
+use Rattle.lists.specs.State.{sound, roomFor}
 use Rattle.lists.specs.States.{withLimitsOf, atPlaces}
-use Rattle.lists.specs.Contract.{Moves}
-use Rattle.lists.specs.Moving.{Movable, Returned, Backing, BackOver, backVerdict, Backs, shiftVerdict, Shifts, MovesBack}
+use Rattle.lists.proofs.Sides.{Moves}
+use Rattle.lists.specs.Moving.{Movable, Returned, BackOver, backVerdict, Backs, shiftVerdict, Shifts, MovesBack}
 use Rattle.lists.specs.Verdicts.{leaving, Leaves, failedBuffer}
 use Rattle.lists.proofs.SoundLaws.{sound-held}
 use Rattle.lists.proofs.SizeLaws.{fits-within}
@@ -21,6 +22,13 @@ use Rattle.lists.proofs.Inner.{room-is}
 use Rattle.lists.proofs.Moving.{Returnable, shift-moves, return-moves}
 use Rattle.lists.proofs.Copying.{copied-self, copied-nothing}
 use Rattle.lists.proofs.Decisions.{Lying, near-same, near-limits, near-placed, leaves-is, decided-accepted, decided-does, room-of}
+
+-- or n glyphs of the output behind it
+pub record Backing (b : Buffer) (n : ℕ) (f s : List ℕ) : Type 0 where
+  pub is-sound : sound b f s ≡ true
+  pub output : outputPhase (b .phase) ≡ true
+  pub in-out : n ≤ b .«out_len» .0
+  pub in-idx : n ≤ b .idx .0
 
 -- ---- back, with the cost of it
 module _ {n : ℕ} {shifts : Bool} {b : Buffer} {v : Verdict} {k : Limits} {x : Buffer} {t : Bool} (ek : k ≡ costs n (b .limits)) (ex : x ≡ withLimitsOf k b) (et : t ≡ isNegative (k .«max_ops»)) where

@@ -10,8 +10,8 @@ use Rattle.lists.specs.Account.{Account, withGone, outputPhase, spoiledP
 use Rattle.lists.specs.Results.{refuse_when_else_, Result, refused, answered, outcome, needing}
 use Rattle.lists.specs.State.{accountOf, Held, roomFor}
 use Rattle.lists.specs.States.{reply, withLimitsOf, atPlaces}
-use Rattle.lists.specs.Contract.{isNo, accountIn, MeetsIn, Moves}
-use Rattle.lists.specs.Moving.{SyncOutput}
+use Rattle.lists.specs.Contract.{isNo}
+use Rattle.lists.proofs.Sides.{accountIn, MeetsIn, Moves, SyncOutput}
 use Rattle.lists.specs.Cursor.{cursorAt, growing, paysFor, forward, goesBack, backward, moveTo}
 use Rattle.lists.proofs.Accounts.{output-clean, output-of, spoiled-of, limits-of, out-of, rest-of, idx-of, len-of}
 use Rattle.lists.proofs.SoundLaws.{held-lengths}

@@ -9,7 +9,8 @@ use Rattle.lists.specs.Account.{Account}
 use Rattle.lists.specs.Results.{refuse_when_else_, Result, refused, accepted, answered, outcome}
 use Rattle.lists.specs.State.{accountOf, account, sound, Held}
 use Rattle.lists.specs.States.{reply}
-use Rattle.lists.specs.Contract.{judged, Meets, exchanged, accountIn, MeetsIn}
+use Rattle.lists.specs.Contract.{judged, Meets}
+use Rattle.lists.proofs.Sides.{exchanged, accountIn, MeetsIn}
 use Rattle.lists.proofs.SoundLaws.{sound-lent, held-sound, held-turned, held-lengths}
 
 -- ---- which slice holds the run

@@ -9,7 +9,8 @@ use Rattle.lists.specs.Account.{Account, failing}
 use Rattle.lists.specs.Results.{Result, outcome, refused, accepted, answered, needing}
 use Rattle.lists.specs.State.{accountOf, account, sound, Held, roomFor}
 use Rattle.lists.specs.States.{reply, withLimitsOf, atPlaces, apartBuffer}
-use Rattle.lists.specs.Contract.{isNo, judged, Meets, MeetsIn}
+use Rattle.lists.specs.Contract.{isNo, judged, Meets}
+use Rattle.lists.proofs.Sides.{MeetsIn}
 use Rattle.lists.specs.Verdicts.{leaving, Leaves, Sized, bySize, wroteBuffer, failedBuffer, settledBuffer, settled, settledAs, Sided, Decided}
 use Rattle.lists.proofs.SoundLaws.{sound-lent, sound-held, held-turned}
 use Rattle.lists.proofs.Calls.{account-first, account-second, judged-sound, shell-unsound, shell-first, shell-second, in-refused, in-accepted, in-answered}

@@ -11,7 +11,7 @@ use Rattle.lists.specs.Account.{Account, withLimits, spoiledPhase, limit
 use Rattle.lists.specs.Results.{Result, refused, accepted, answered, needing}
 use Rattle.lists.specs.State.{goneOf, stateOf, accountOf, Held, roomFor}
 use Rattle.lists.specs.States.{reply, withLimitsOf}
-use Rattle.lists.specs.Contract.{MeetsIn, Moves}
+use Rattle.lists.proofs.Sides.{MeetsIn, Moves}
 use Rattle.lists.specs.Cursor.{paysFor}
 use Rattle.lists.proofs.Accounts.{rest-of}
 use Rattle.lists.proofs.SizeLaws.{needing-fits, needing-gives-up, needing-over, fits-within}

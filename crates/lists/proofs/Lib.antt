@@ -26,6 +26,7 @@ pub mod PhaseCalls
 pub mod Positioning
 pub mod Renaming
 pub mod Runs
+pub mod Sides
 pub mod Simple
 pub mod SizeLaws
 pub mod SoundLaws

@@ -7,7 +7,8 @@ use Rattle.lists.specs.declared.{Buffer.Buffer, Verdict.Verdict}
 use Rattle.lists.specs.Account.{outputPhase, spoiledPhase}
 use Rattle.lists.specs.State.{sound}
 use Rattle.lists.specs.States.{atPlaces}
-use Rattle.lists.specs.Moving.{SyncOutput, Opened, Backs, MovesForward, MovesBack, MovesTo}
+use Rattle.lists.specs.Moving.{Opened, Backs, MovesForward, MovesBack, MovesTo}
+use Rattle.lists.proofs.Sides.{SyncOutput}
 use Rattle.lists.specs.Verdicts.{Leaves}
 use Rattle.lists.proofs.SoundLaws.{sound-held, soundness}
 use Rattle.lists.proofs.ForwardLaws as forths

@@ -8,7 +8,7 @@ use Rattle.records.specs.{Glyphs.Glyph, View.glyphs, View.wordsFrom}
 use Rattle.records.proofs.View.{glyphs-same, whole-same}
 use Rattle.lists.specs.declared.{Buffer.Buffer}
 use Rattle.lists.specs.Account.{outputPhase, withGone}
-use Rattle.lists.specs.Contract.{Moves}
+use Rattle.lists.proofs.Sides.{Moves}
 use Rattle.lists.specs.Copied.{copied}
 use Rattle.lists.specs.Cursor.{moved, growing, back}
 use Rattle.lists.specs.State.{accountOf, Held}

@@ -12,7 +12,8 @@ use Rattle.lists.specs.Results.{refuse_when_else_, Result, accepted}
 use Rattle.lists.specs.Cursor.{opened, positioned, fresh, clearOutput, clearPositions, sync}
 use Rattle.lists.specs.State.{accountOf, sound, roomFor}
 use Rattle.lists.specs.States.{reply, withLimitsOf, atPlaces, freshBuffer, openedBuffer, positionedBuffer, spoiledBuffer, swappedBuffer}
-use Rattle.lists.specs.Contract.{Meets, MeetsIn}
+use Rattle.lists.specs.Contract.{Meets}
+use Rattle.lists.proofs.Sides.{MeetsIn}
 use Rattle.lists.specs.Moving.{Carriable, Carried, Zeroed}
 use Rattle.lists.specs.Verdicts.{leaving, Leaves, Sized, bySize, wroteBuffer, failedBuffer, liesElsewhere, freshVerdict, clearVerdict, Freshens, Clears, settledBuffer, settled, settledAs, synced, Sided, Decided}
 use Rattle.lists.proofs.Accounts.{output-of, spoiled-of, places-in}

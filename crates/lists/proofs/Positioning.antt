@@ -9,7 +9,7 @@ use Rattle.records.proofs.View.{whole-same, beyond-placements, paired-zero, pai
 use Rattle.records.proofs.Renaming.{take-map, drop-map}
 use Rattle.lists.specs.declared.{Buffer.Buffer}
 use Rattle.lists.specs.Account.{outputPhase, spoiledPhase, inPhase, readLevel}
-use Rattle.lists.specs.Contract.{Moves}
+use Rattle.lists.proofs.Sides.{Moves}
 use Rattle.lists.specs.Cursor.{positioned, withoutPositions}
 use Rattle.lists.specs.State.{shown, goneOf, stateOf, accountOf, Held}
 use Rattle.lists.specs.States.{positionedBuffer}

@@ -38,26 +38,3 @@ pub record Begins (level wants : ℕ) (r : Reply) : Type 0 where
   pub is : (f s : List ℕ) → outcomeOf r f s ≡ outcome (freshAccount level 0) (fresh level wants (freshAccount level 0))
   -- it does not contradict itself
   pub is-sound : (f s : List ℕ) → sound (r .buffer) f s ≡ rightlyLent (length f) (length s)
-
--- ---- the same below the exported functions, for the slice that holds the run and the other. A call may exchange the two
-abbrev pub exchanged : Bool → Bool → Bool
-exchanged x y = cond x (not y) y
-
-unfoldable pub accountIn : (before : Bool) → Buffer → (run other : List ℕ) → Account ℕ
-accountIn before r run other = cond (exchanged before (r .swapped)) (accountOf r other run) (accountOf r run other)
-
-pub record MeetsIn (call : ℕ → Account ℕ → Result ℕ) (b : Buffer) (run other : List ℕ) (r : Reply) (run′ other′ : List ℕ) : Type 0 where
-  pub is : record { answer = said (r .answer); after = accountIn (b .swapped) (r .buffer) run′ other′ } ≡ outcome (accountOf b run other) (call (capacityOf (length run)) (accountOf b run other))
-  pub stays : isNo (said (r .answer)) ≡ true → (r .buffer ≡ b) × (run′ ≡ run) × (other′ ≡ other)
-  pub run-beyond : wordsFrom (r .buffer .limits .allocated) run′ ≡ wordsFrom (r .buffer .limits .allocated) run
-  pub other-beyond : wordsFrom (r .buffer .limits .allocated) other′ ≡ wordsFrom (r .buffer .limits .allocated) other
-  pub held : Held (r .buffer) run other
-
--- what a move within the slices does: h on the account, nothing beyond the allocated size, the limits as they were
-pub record Moves (h : Account ℕ → Account ℕ) (b : Buffer) (run other : List ℕ) (r : Buffer) (run′ other′ : List ℕ) : Type 0 where
-  pub is : accountOf r run′ other′ ≡ h (accountOf b run other)
-  pub limits : r .limits ≡ b .limits
-  pub side : r .swapped ≡ b .swapped
-  pub run-beyond : wordsFrom (b .limits .allocated) run′ ≡ wordsFrom (b .limits .allocated) run
-  pub other-beyond : wordsFrom (b .limits .allocated) other′ ≡ wordsFrom (b .limits .allocated) other
-  pub held : Held r run other

@@ -51,11 +51,6 @@ pub record Zeroed (n : ℕ) (run other run′ other′ : List ℕ) : Type 0 wher
   pub run-is : run′ ≡ run
   pub other-is : placements other′ ≡ replicate n zeroPosition ++ drop n (placements other)
 
--- a buffer with output, of the slice that holds the run and the other
-pub record SyncOutput (b : Buffer) (run other : List ℕ) : Type 0 where
-  pub held : Held b run other
-  pub output : outputPhase (b .phase) ≡ true
-
 -- the same of the two slices
 pub record Opened (b : Buffer) (f s : List ℕ) : Type 0 where
   pub is-sound : sound b f s ≡ true
@@ -67,13 +62,6 @@ pub record Forwarding (b : Buffer) (n : ℕ) (f s : List ℕ) : Type 0 where
   pub output : outputPhase (b .phase) ≡ true
   pub in-len : b .idx .0 + n ≤ b .len .0
   pub some : 0 < n
-
--- or n glyphs of the output behind it
-pub record Backing (b : Buffer) (n : ℕ) (f s : List ℕ) : Type 0 where
-  pub is-sound : sound b f s ≡ true
-  pub output : outputPhase (b .phase) ≡ true
-  pub in-out : n ≤ b .«out_len» .0
-  pub in-idx : n ≤ b .idx .0
 
 -- or n glyphs of the output behind it, more than the input has room for
 pub record BackOver (b : Buffer) (n : ℕ) (f s : List ℕ) : Type 0 where
