@@ -5,7 +5,7 @@ use borrow.Author.Tests.{lt-ltb, le-ltb}
 use lib.{Dec.ltb, ListN.length}
 use Rattle.records.specs.{Refusal, Contradiction, WrongPhase, BadOperand, Answer, Done, No, Limits}
 use Rattle.lists.specs.declared.{Buffer.Buffer, Reply.Reply, Verdict.Verdict}
-use Rattle.lists.specs.{Account.Account, Contract.Meets, Results.Result, Results.refused, State.sound, State.Held, States.reply, States.withLimitsOf, Verdicts.leaving, Verdicts.Leaves, Verdicts.settledBuffer, Verdicts.settled, Verdicts.Sided}
+use Rattle.lists.specs.{Account.Account, Contract.Meets, Results.Result, Results.refused, State.sound, States.reply, States.withLimitsOf, Verdicts.leaving, Verdicts.Leaves, Verdicts.settledBuffer, Verdicts.settled, Verdicts.Sided}
 use Rattle.lists.proofs.Sides.{MeetsIn}
 use Rattle.lists.specs.States.{atPlaces}
 use Rattle.lists.proofs.Decisions.{Lying, Refuses, acts-is, leaves-is, settles-unsound, settles-refused, meets-sided}

@@ -7,7 +7,7 @@ use Rattle.records.specs.{Phase, Limits, WrongPhase, BadOperand, Glyphs.key, Ra
 use Rattle.lists.specs.declared.{Buffer.Buffer, Verdict.Verdict}
 use Rattle.lists.specs.{Account.readLevel, Account.Account, Account.withRest, Results.refused, Results.accepted, Results.refuse_when_else_, State.accountOf}
 use Rattle.lists.proofs.Accounts.{level-of}
-use Rattle.edits.specs.{Charges.leftWith, Charges.DecidedBy, Charges.running, Charges.MergesEach, Charges.TakesKeyed, WholeRun.notWhole, Merging.merge, Groups.sizes, Groups.continues, Groups.regrouped, Groups.mergedEach, Groups.reverseGraphemes, Wholes.WholeInput, Wholes.RunRoom, Reversals.Rearranges, Reversals.TurnsGraphemes, Reversals.Regroups, Reversals.regroups}
+use Rattle.edits.specs.{Charges.leftWith, Charges.DecidedBy, Charges.running, Charges.MergesEach, Charges.TakesKeyed, WholeRun.notWhole, Merging.merge, Groups.sizes, Groups.continues, Groups.regrouped, Groups.mergedEach, Groups.reverseGraphemes, Wholes.RunRoom, Reversals.Rearranges, Reversals.TurnsGraphemes, Reversals.Regroups, Reversals.regroups}
 use Rattle.edits.proofs.{Chaining.acts-as, Chaining.acts-then, Charging.OnKeyed, Charging.charges-acts, Charging.settles-left, Charging.keyed-decided, Charging.whole-after, GroupLaws.graphemes-same, MergeEach.keys-merge, WholeInputs.not-not-whole, MergeCalls.in-acts, ReverseCalls.rearranged}
 
 -- ---- merges leave the keys of *rest* alone

@@ -157,9 +157,6 @@ module _ {merges : Bool} {slot mask level n : ℕ} {l₀ : Limits} {run₀ other
   }
 
   module _ {l : Limits} {run other : List ℕ} {s : ℕ} (v : EachOf merges slot mask level n l₀ run₀ other₀ l run other s) where
-    pub each-room : s < n → (s < n) × (n ≤ length (glyphs run))
-    each-room o = (o, v .room .fits)
-
     module _ {e : ℕ} (o : s < n) (ee : e ≡ s + 1 + heads (isnt 0) (slice (s + 1) n (map (key slot mask) (infos (glyphs run))))) where
       -- whatever the phase
       inside : Group (continues slot mask) (shown Plain run other) n s e
@@ -215,4 +212,4 @@ module _ {slot : ℕ} (mask : ℕ) {b : Buffer} {merging : Bool} (em : merging �
   form-decided w = keyed-decided form-on w
 
 -- for the proofs of functions
-pub ruleset merging-each = (each-none, each-room, each-merge, each-less, each-more, each-done)
+pub ruleset merging-each = (each-none, each-merge, each-less, each-more, each-done)

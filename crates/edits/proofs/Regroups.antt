@@ -1,6 +1,6 @@
 -- Groups in reverse order, as a loop makes them: each group the other way round from the left, then the whole.
 use mathlib.Core.{Path._≡_, Path.ap, Path.sym, Path._∙_, Bool.Bool, List.List, List.[], List._∷_, List._++_, List.append-assoc, List.append-nil, List.reverse, List.reverse-append, List.reverse-reverse}
-use Prim.Native.Nat.{ℕ, _+_, _-_, _≤_}
+use Prim.Native.Nat.{ℕ, _-_, _≤_}
 use native.Mathlib.Omega.{arith}
 use lib.ListN.{take, drop, length, drop-of-length-le}
 use lib.Seq.{slice, drop-drop, take-all}

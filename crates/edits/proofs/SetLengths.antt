@@ -1,6 +1,6 @@
 -- `set_length`: zeros behind the run, on the account.
 use mathlib.Core.{Path._≡_, Path.refl, Path.sym, Path.ap, Path._∙_, Bool.Bool, Bool.true, Bool.false, List.List, List._∷_, List._++_, List.append-nil}
-use Prim.Native.Nat.{ℕ, zero, suc, _+_, _-_, _≤_, _<_}
+use Prim.Native.Nat.{ℕ, zero, suc, _-_, _≤_, _<_}
 use native.Mathlib.Omega.{arith}
 use lib.{ListN.length, ListN.take, ListN.drop, ListN.replicate, Seq.take-all, Seq.take-take, Seq.length-take-le}
 use Rattle.records.specs.{Phase, Position, Contradiction, WrongPhase, Value, No, Glyphs.Glyph, Glyphs.blank, Glyphs.zeroPosition, Counters.capacityOf, Ranges.copies, View.glyphs, View.placements, View.paired}

@@ -1,6 +1,6 @@
 -- Parts of a list with a range turned round.
 use mathlib.Core.{Path._≡_, Path.ap, Path.sym, Path._∙_, List.List, List._++_, List.append-assoc, List.append-nil, List.reverse}
-use Prim.Native.Nat.{ℕ, _+_, _-_, _≤_}
+use Prim.Native.Nat.{ℕ, _-_, _≤_}
 use native.Mathlib.Omega.{arith}
 use lib.ListN.{take, drop, length, length-append, length-drop, length-reverse, take-append-drop}
 use lib.Seq.{slice, take-at, drop-at, take-length, drop-length, take-append-le, drop-append-le, length-take-le, length-slice}

@@ -1,15 +1,14 @@
 -- The account of a buffer whose *rest* is the run, and what a call on it leaves.
 use mathlib.Core.{Path._≡_, Path.refl, Path.sym, Path.ap, Path._∙_, Bool.Bool, Bool.true, Bool.false, Bool._||_, List.List, List.[]}
-use Prim.Native.Nat.{ℕ, _-_, _≤_}
+use Prim.Native.Nat.{ℕ, _≤_}
 use native.Mathlib.Omega.{arith}
 use borrow.Author.Tests.{ltb-false}
 use lib.{Dec.ltb, ListN.length, ListN.take, ListN.drop}
-use Rattle.records.specs.{WrongPhase, No, Counters.capacityOf, Glyphs.Glyph, View.glyphs, View.placements}
+use Rattle.records.specs.{Glyphs.Glyph, View.glyphs, View.placements}
 use Rattle.records.proofs.View.{beyond-glyphs, beyond-placements, whole-same}
-use Rattle.lists.specs.declared.{Buffer.Buffer, Reply.Reply}
-use Rattle.lists.specs.{Account.Account, Account.outputPhase, Account.spoiledPhase, Account.idx, Account.withRest, Results.Result, Results.refused, State.shown, State.goneOf, State.stateOf, State.accountOf, State.Held, States.reply}
-use Rattle.lists.proofs.Sides.{MeetsIn}
-use Rattle.lists.proofs.{Outputs.gone-without, Accounts.output-of, Accounts.spoiled-of, Accounts.idx-of, Accounts.rest-of, SoundLaws.held-lengths, Calls.in-refused}
+use Rattle.lists.specs.declared.{Buffer.Buffer}
+use Rattle.lists.specs.{Account.outputPhase, Account.spoiledPhase, Account.idx, Account.withRest, State.shown, State.goneOf, State.stateOf, State.accountOf, State.Held}
+use Rattle.lists.proofs.{Outputs.gone-without, Accounts.output-of, Accounts.spoiled-of, Accounts.idx-of, Accounts.rest-of, SoundLaws.held-lengths}
 use Rattle.records.proofs.Tests.{tested}
 use Rattle.edits.specs.{Acts.Acts, WholeRun.notWhole, Wholes.WholeInput}
 use Rattle.edits.proofs.Holding.{behind-further}
@@ -44,12 +43,6 @@ module _ {b : Buffer} {run other : List ℕ} (v : Held b run other) where
       let more : (spoiledPhase (b .phase) || ltb 0 (b .idx .0)) ≡ false = neither-right (outputPhase (b .phase)) _ none in
       let low : b .idx .0 ≤ 0 = ltb-false 0 (b .idx .0) (neither-right (spoiledPhase (b .phase)) _ more) in
       record { held = v; plain = neither-left (outputPhase (b .phase)) _ none; clean = neither-left (spoiledPhase (b .phase)) _ more; start = omega arith }
-
-  -- refusal 2
-  pub in-not-whole : {call : ℕ → Account ℕ → Result ℕ} {r : Reply} {t : Bool} → t ≡ wholeTest b → t ≡ true
-      → (notWhole (accountOf b run other) ≡ true → call (capacityOf (length run)) (accountOf b run other) ≡ refused WrongPhase)
-      → r ≡ reply b (No WrongPhase) → MeetsIn call b run other r run other
-  in-not-whole e h k er = in-refused WrongPhase (k (whole-test ∙ (sym e ∙ h))) v er
 
 -- ---- the account
 module _ {b : Buffer} {run other : List ℕ} (w : WholeInput b run other) where

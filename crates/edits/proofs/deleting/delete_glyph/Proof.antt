@@ -10,13 +10,13 @@ keep-cluster-requires : tie.Need-keep-cluster-requires
 keep-cluster-requires c κs = let at : tie.After-delete-verdict = search in at .delete-verdict .ensures .asked (search)
 
 same-length : tie.Need-same-length
-same-length c = ⊎-elim (λ w. search (ending, needs)) (λ w. search (ending, needs)) (c .before .if1 .came)
+same-length c = let end : tie.Joined1 = search in ⊎-elim (λ w. search (ending, needs)) (λ w. search (ending, needs)) (end .if1 .came)
 
 same-length-2 : tie.Need-same-length-2
-same-length-2 c = ⊎-elim (λ w. search (ending, needs)) (λ w. search (ending, needs)) (c .before .if1 .came)
+same-length-2 c = let end : tie.Joined1 = search in ⊎-elim (λ w. search (ending, needs)) (λ w. search (ending, needs)) (end .if1 .came)
 
 returns : tie.Need-returns
-returns c = ⊎-elim (λ w. search (by-acted, due)) (λ w. search by-still) (c .before .if1 .came)
+returns c = let end : tie.Joined1 = search in ⊎-elim (λ w. search (by-acted, due)) (λ w. search by-still) (end .if1 .came)
 
 pub delete-glyph-spec : {M : Type 1} → statement M
 delete-glyph-spec = tie.close (tie.spec (search needs) keep-cluster-requires (search needs) (search needs) same-length same-length-2 returns)

@@ -6,13 +6,13 @@ use Rattle.edits.proofs.flagging.safe_to_insert_tatweel.Statement.{stat
 use Rattle.edits.proofs.flagging.safe_to_insert_tatweel.Tie as tie
 
 same-length : tie.Need-same-length
-same-length c = ⊎-elim (λ w. search (ending, needs)) (λ w. search (ending, needs)) (c .before .if1 .came)
+same-length c = let end : tie.Joined1 = search in ⊎-elim (λ w. search (ending, needs)) (λ w. search (ending, needs)) (end .if1 .came)
 
 same-length-2 : tie.Need-same-length-2
-same-length-2 c = ⊎-elim (λ w. search (ending, needs)) (λ w. search (ending, needs)) (c .before .if1 .came)
+same-length-2 c = let end : tie.Joined1 = search in ⊎-elim (λ w. search (ending, needs)) (λ w. search (ending, needs)) (end .if1 .came)
 
 returns : tie.Need-returns
-returns c = ⊎-elim (λ w. search (end-acted, plain-tatweel, flagged-at)) (λ w. search (end-still, plain-tatweel)) (c .before .if1 .came)
+returns c = let end : tie.Joined1 = search in ⊎-elim (λ w. search (end-acted, plain-tatweel, flagged-at)) (λ w. search (end-still, plain-tatweel)) (end .if1 .came)
 
 pub safe-to-insert-tatweel-spec : {M : Type 1} → statement M
 safe-to-insert-tatweel-spec = tie.close (tie.spec (search needs) (search needs) (search needs) (search needs) (λ c κs. search flag-calls) (search needs) same-length same-length-2 returns)

@@ -16,7 +16,7 @@ abbrev μ-loop : tie.MeasureT-loop
 μ-loop ws₀ at g numbers bytes n i₀ ws i = n - i
 
 add-put : tie.Need-add-put Inv-loop μ-loop
-add-put c = omega (arith, glyphs-fit (c .before .before .loop .ws))
+add-put c = let start : tie.Start Inv-loop μ-loop = search in omega (arith, glyphs-fit (start .args .ws .now))
 
 pub put-copies-spec : {M : Type 1} → statement M
 put-copies-spec =
