@@ -7,7 +7,7 @@ use lib.ListN.{length}
 use lib.Seq.{slice}
 use Rattle.records.specs.{Glyphs.Glyph, Glyphs.flagged, Ranges.clusters, Ranges.edit, View.glyphs}
 use Rattle.records.proofs.View.{glyphs-same}
-use Rattle.lists.proofs.Sides.{exchanged}
+use Rattle.lists.specs.Contract.{exchanged}
 use Rattle.lists.specs.Verdicts.{Sided}
 use Rattle.lists.proofs.Decisions.{sided-first, sided-second}
 use Rattle.edits.specs.Flags.{interior, sought}

@@ -10,7 +10,8 @@ use Rattle.lists.specs.Results.{refuse_when_else_, Result, refused, acce
 use Rattle.lists.specs.State.{accountOf, account, sound, Held}
 use Rattle.lists.specs.States.{reply}
 use Rattle.lists.specs.Contract.{judged, Meets}
-use Rattle.lists.proofs.Sides.{exchanged, accountIn, MeetsIn}
+use Rattle.lists.specs.Contract.{exchanged}
+use Rattle.lists.proofs.Sides.{accountIn, MeetsIn}
 use Rattle.lists.proofs.SoundLaws.{sound-lent, held-sound, held-turned, held-lengths}
 
 -- ---- which slice holds the run

@@ -9,7 +9,8 @@ use Rattle.lists.specs.Results.{Result, answered, outcome, needing}
 use Rattle.lists.specs.State.{stateOf, accountOf, roomFor}
 use Rattle.lists.specs.States.{reply, withLimitsOf}
 use Rattle.lists.specs.Contract.{isNo}
-use Rattle.lists.proofs.Sides.{exchanged, accountIn, MeetsIn, Moves}
+use Rattle.lists.specs.Contract.{exchanged}
+use Rattle.lists.proofs.Sides.{accountIn, MeetsIn, Moves}
 use Rattle.lists.specs.Cursor.{moved, back, growing, paysFor, forward, goesBack, backward}
 use Rattle.lists.proofs.Accounts.{out-of}
 use Rattle.lists.proofs.Moving.{Forwardable, Returnable}

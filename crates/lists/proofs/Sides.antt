@@ -1,15 +1,12 @@
 -- What a call leaves, said of the slice that holds the run and the other.
-use mathlib.Core.{Path._≡_, Bool.Bool, Bool.true, Bool.cond, Bool.not, List.List}
+use mathlib.Core.{Path._≡_, Bool.Bool, Bool.true, Bool.cond, List.List}
 use Prim.Native.Nat.{ℕ}
 use lib.{ListN.length}
 use Rattle.records.specs.{Answers.said, Counters.capacityOf, View.wordsFrom}
 use Rattle.lists.specs.declared.{Buffer.Buffer, Reply.Reply}
-use Rattle.lists.specs.{Account.Account, Account.outputPhase, Contract.isNo, Results.Result, Results.outcome, State.accountOf, State.Held}
+use Rattle.lists.specs.{Account.Account, Account.outputPhase, Contract.isNo, Contract.exchanged, Results.Result, Results.outcome, State.accountOf, State.Held}
 
 -- a call may exchange the two
-abbrev pub exchanged : Bool → Bool → Bool
-exchanged x y = cond x (not y) y
-
 unfoldable pub accountIn : (before : Bool) → Buffer → (run other : List ℕ) → Account ℕ
 accountIn before r run other = cond (exchanged before (r .swapped)) (accountOf r other run) (accountOf r run other)
 

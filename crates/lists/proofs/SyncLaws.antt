@@ -9,7 +9,8 @@ use Rattle.lists.specs.Account.{Account, inPhase, withGone, outputPhase,
 use Rattle.lists.specs.Results.{refuse_when_else_, Result, refused, accepted, answered, outcome, needing}
 use Rattle.lists.specs.State.{shown, goneOf, stateOf, accountOf, Held, roomFor}
 use Rattle.lists.specs.States.{reply, withLimitsOf, swappedBuffer, spoiledBuffer}
-use Rattle.lists.proofs.Sides.{exchanged, accountIn, MeetsIn, Moves}
+use Rattle.lists.specs.Contract.{exchanged}
+use Rattle.lists.proofs.Sides.{accountIn, MeetsIn, Moves}
 use Rattle.lists.specs.Cursor.{moved, swapped, spoiling, nextGlyphs, sync}
 use Rattle.lists.proofs.Accounts.{output-clean, output-of, spoiled-of, limits-of, out-of, rest-of, len-of}
 use Rattle.lists.proofs.Moving.{Forwardable}

@@ -38,3 +38,7 @@ pub record Begins (level wants : ℕ) (r : Reply) : Type 0 where
   pub is : (f s : List ℕ) → outcomeOf r f s ≡ outcome (freshAccount level 0) (fresh level wants (freshAccount level 0))
   -- it does not contradict itself
   pub is-sound : (f s : List ℕ) → sound (r .buffer) f s ≡ rightlyLent (length f) (length s)
+
+-- y, or its opposite where x is true: which slice, seen from either
+abbrev pub exchanged : Bool → Bool → Bool
+exchanged x y = cond x (not y) y
