@@ -125,4 +125,4 @@ module _ {x separate interiorly : Bool} {level idx outLen s e : ℕ} {f g f′ g
   form-all h w = rw h w
 
 -- for the proofs of functions
-pub ruleset marking = (run-interior, run-short, run-all, flagged-is, marked-is, sought-none, marked-none, sought-second, sought-first, sought-both, out-interior, out-all, form-interior, form-all)
+pub ruleset marking = (run-interior, run-short, run-all, flagged-is, marked-is, sought-none, marked-none, sought-second, sought-first, sought-both, input-range, out-interior, out-all, form-interior, form-all)

@@ -158,3 +158,6 @@ module _ (capacity : ℕ) (a : Account ℕ) where
     pub glyph-sizes : (g : ℕ) → eqb (length (a .rest) + outLen a) 0 ≡ true → outputGlyph capacity g a ≡ writing capacity 1 (sized (outLen a + 1) a) a
     unfolding outputGlyph refuse_when_else_
     glyph-sizes g k = rw (h, k)
+
+-- for the proofs of functions
+pub ruleset last-glyph = (last-apart, last-within)
