@@ -9,7 +9,7 @@ returns c = search needs
 
 returns-2 : tie.Need-returns-2
 unfolding number doneBound
-returns-2 c = rw (c .before .before .start .given .1) (c .ends-too-far .ensures)
+returns-2 c = let at : tie.After-start = search in rw (at .start .given .1) (c .ends-too-far .ensures)
 
 pub done-too-far-spec : {M : Type 1} → statement M
 done-too-far-spec = tie.close (tie.spec (search needs) (search needs) (search needs) returns returns-2)

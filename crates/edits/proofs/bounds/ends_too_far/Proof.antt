@@ -11,7 +11,7 @@ returns c = search needs
 
 returns-2 : tie.Need-returns-2
 unfolding number inputBound
-returns-2 c = rw (c .before .before .end .given .1) (too-far _ _ _ (omega arith) (omega arith) (omega arith) (c .wrapping-sub-usize .ensures))
+returns-2 c = let at : tie.After-end = search in rw (at .end .given .1) (too-far _ _ _ (omega arith) (omega arith) (omega arith) (c .wrapping-sub-usize .ensures))
 
 pub ends-too-far-spec : {M : Type 1} → statement M
 ends-too-far-spec = tie.close (tie.spec (search needs) (search needs) (search needs) returns returns-2)

@@ -9,7 +9,7 @@ returns c = search needs
 
 returns-2 : tie.Need-returns-2
 unfolding endOf number inputBound
-returns-2 c = rw (c .before .before .b .given .1) (c .lesser-place .ensures)
+returns-2 c = let at : tie.After-b = search in rw (at .b .given .1) (c .lesser-place .ensures)
 
 pub input-end-spec : {M : Type 1} → statement M
 input-end-spec = tie.close (tie.spec (search needs) (search needs) (search needs) returns returns-2)
