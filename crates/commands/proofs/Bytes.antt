@@ -4,15 +4,15 @@ use Prim.Native.Nat.{ℕ, zero, suc, _+_, _/_, _%_, _<_}
 use native.Mathlib.Omega.{arith}
 use lib.{ListN.length, ListN.getD, ListN.take, ListN.drop}
 use Rattle.records.specs.{Unreadable}
-use Rattle.lists.specs.{Account.Account, Account.renamed, Results.Outcome}
+use Rattle.lists.specs.{Account.Account, Account.renamed, Account.Outcome}
 use Rattle.commands.specs.Calls.{Call, Worded, step}
 use Rattle.records.specs.Bytes.{word}
-use Rattle.commands.specs.Bytes.{Read, unreadable, got, mapped, words, at, Form, unknown, plain, glyphAnd, listed, forms, readForm, readUpTo, runRead, runBytes}
-use Rattle.commands.specs.Renaming.{renamedOutcome, reworded, overOperands, asItIs, renamedNumber, renamedForm, renamedUpTo, renamedBytes}
+use Rattle.commands.specs.Calls.{Read, unreadable, got, mapped, words, operand, Form, unknown, operands, glyphAnd, listed, forms, readForm, readUpTo, runRead, runBytes}
+use Rattle.commands.specs.Claims.{renamedOutcome, reworded, overOperands, asItIs, renamedNumber, renamedForm, renamedUpTo, renamedBytes}
 use Rattle.commands.proofs.Renaming.{step-rename, refused-outcome}
 
 -- what was read, changed by g, and the bytes after it, changed by h
-turned : {A B : Type 0} → (A → B) → (List ℕ → List ℕ) → Read A → Read B
+unfoldable pub turned : {A B : Type 0} → (A → B) → (List ℕ → List ℕ) → Read A → Read B
 turned g h unreadable = unreadable
 turned g h (got a l) = got (g a) (h l)
 
@@ -21,10 +21,10 @@ worded c gs = record { call = c; glyphs = gs }
 
 -- the parts of the reader that go by what was read
 abbrev second : Read (List ℕ) → ℕ
-second r = elim r [ unreadable ↦ 0 | got ws l ↦ at 1 ws ]
+second r = elim r [ unreadable ↦ 0 | got ws l ↦ operand 1 ws ]
 
 unfoldable pub listedRead : (List ℕ → Call) → Read (List ℕ) → Read (Worded ℕ)
-listedRead k r = elim r [ unreadable ↦ unreadable | got ws l ↦ mapped (λ gs. worded (k ws) gs) (words (at 1 ws) l) ]
+listedRead k r = elim r [ unreadable ↦ unreadable | got ws l ↦ mapped (λ gs. worded (k ws) gs) (words (operand 1 ws) l) ]
 
 unfoldable pub continued : ℕ → Read (Worded ℕ) → List (Option (Worded ℕ))
 continued n r = elim r [ unreadable ↦ none ∷ [] | got w l ↦ some w ∷ readUpTo n l ]
@@ -111,12 +111,12 @@ module _ (f : ℕ → ℕ) where
     listed-read : (k : List ℕ → Call) (r : Read (List ℕ)) → listedRead k (turned (λ ws. ws) (overOperands (renamedNumber f) (second r) next) r) ≡ turned (reworded f) next (listedRead k r)
     unfolding listedRead turned
     listed-read k unreadable = refl
-    listed-read k (got ws l) = rw words-renamed (listed-turned (k ws) (words (at 1 ws) l))
+    listed-read k (got ws l) = rw words-renamed (listed-turned (k ws) (words (operand 1 ws) l))
 
-    form-read : (x : Form) (l : List ℕ) → readForm x (renamedForm f x next l) ≡ turned (reworded f) next (readForm x l)
+    pub form-read : (x : Form) (l : List ℕ) → readForm x (renamedForm f x next l) ≡ turned (reworded f) next (readForm x l)
     unfolding readForm renamedForm turned listedRead
     form-read unknown l = refl
-    form-read (plain n k) l = rw words-kept (plain-turned k (words n l))
+    form-read (operands n k) l = rw words-kept (plain-turned k (words n l))
     form-read (glyphAnd n k) l = rw words-headed (glyph-turned k (words (suc n) l))
     form-read (listed k) l = ap (listedRead k) (words-kept 2 (overOperands (renamedNumber f) (second (words 2 l)) next) l) ∙ listed-read k (words 2 l)
 
@@ -158,11 +158,11 @@ module _ (f : ℕ → ℕ) where
   form-length : (x : Form) (next : List ℕ → List ℕ) → ((l : List ℕ) → length (next l) ≡ length l) → (l : List ℕ) → length (renamedForm f x next l) ≡ length l
   unfolding renamedForm
   form-length unknown next e l = refl
-  form-length (plain n k) next e l = over-length asItIs kept-four n next e l
+  form-length (operands n k) next e l = over-length asItIs kept-four n next e l
   form-length (glyphAnd n k) next e l = over-length (renamedNumber f) renamed-four 1 _ (over-length asItIs kept-four n next e) l
   form-length (listed k) next e l = over-length asItIs kept-four 2 _ (over-length (renamedNumber f) renamed-four _ next e) l
 
-  upTo-length : (n : ℕ) (l : List ℕ) → length (renamedUpTo f n l) ≡ length l
+  pub upTo-length : (n : ℕ) (l : List ℕ) → length (renamedUpTo f n l) ≡ length l
   unfolding renamedUpTo
   upTo-length zero l = refl
   upTo-length (suc n) [] = refl
@@ -215,7 +215,7 @@ module _ (f : ℕ → ℕ) (to-words : (w : ℕ) → w < 4294967296 → f w < 42
   form-bytes : (x : Form) (next : List ℕ → List ℕ) → ((l : List ℕ) → AreBytes l → AreBytes (next l)) → (l : List ℕ) → AreBytes l → AreBytes (renamedForm f x next l)
   unfolding renamedForm
   form-bytes unknown next e l u = u
-  form-bytes (plain n k) next e l u = over-bytes asItIs kept-bytes n next e l u
+  form-bytes (operands n k) next e l u = over-bytes asItIs kept-bytes n next e l u
   form-bytes (glyphAnd n k) next e l u = over-bytes (renamedNumber f) number-bytes 1 (overOperands asItIs n next) (over-bytes asItIs kept-bytes n next e) l u
   form-bytes (listed k) next e l u = over-bytes asItIs kept-bytes 2 (overOperands (renamedNumber f) (second (words 2 l)) next) (over-bytes (renamedNumber f) number-bytes (second (words 2 l)) next e) l u
 

@@ -3,14 +3,14 @@ use mathlib.Core.{Path._≡_, Bool.true, Bool.false, Bool.cond, Option.Option, L
 use Prim.Native.Nat.{ℕ, _≤_, _<_}
 use native.Mathlib.Omega.{arith}
 use borrow.Author.Tests.{eq-eqb, ne-eqb}
-use Rattle.records.specs.{InputPlace, DonePlace, View.seen, declared.Glyph.Glyph as Words}
+use Rattle.records.specs.{InputPlace, DonePlace, View.seen, declared.GlyphInfo.GlyphInfo}
 use Rattle.records.proofs.View.{seen-number, seen-info}
-use Rattle.lists.specs.declared.{Buffer.Buffer, Reply.Reply}
+use Rattle.lists.specs.{declared.Buffer.Buffer, declared.Reply.Reply}
 use Rattle.lists.specs.Contract.{Meets}
-use Rattle.edits.specs.declared.InputBound.{InputBound, the-variants.Open as InputOpen, the-variants.At as InputAt}
-use Rattle.edits.specs.declared.DoneBound.{DoneBound, the-variants.Open as DoneOpen, the-variants.At as DoneAt}
-use Rattle.edits.specs.{Bounds.inputBound, Bounds.doneBound, Flags.plainForm, Flags.outbufferForm, Flags.wantsConcat, Flags.wantsTatweel, Writing.outputInfo}
-use Rattle.commands.specs.Bytes.{bound, input, done}
+use Rattle.edits.specs.{declared.InputBound.InputBound, declared.InputBound.the-variants.Open as InputOpen, declared.InputBound.the-variants.At as InputAt}
+use Rattle.edits.specs.{declared.DoneBound.DoneBound, declared.DoneBound.the-variants.Open as DoneOpen, declared.DoneBound.the-variants.At as DoneAt}
+use Rattle.edits.specs.{Flags.inputBound, Flags.doneBound, Flags.plainForm, Flags.outbufferForm, Flags.wantsConcat, Flags.wantsTatweel, Writing.outputInfo}
+use Rattle.commands.specs.Calls.{bound, inputPlace, donePlace}
 use Rattle.commands.proofs.Readings.{NoneOf, past}
 use Rattle.records.specs.Bytes.{wordsAt}
 use Rattle.commands.specs.declared.Order.{Order}
@@ -18,25 +18,25 @@ use Rattle.commands.specs.Reading.{ordered, wordedOf}
 use Rattle.commands.specs.Calls.{Worded, perform, c0C-output-info, c15-unsafe-to-break, c16-unsafe-to-concat, c17-safe-to-insert-tatweel, c18-unsafe-to-break-from-outbuffer, c19-unsafe-to-concat-from-outbuffer}
 
 -- ---- bounds: the highest word is an open one
-pub input-open : (n : ℕ) → n ≡ 4294967295 → inputBound InputOpen ≡ bound (λ k. input k) n
+pub input-open : (n : ℕ) → n ≡ 4294967295 → inputBound InputOpen ≡ bound (λ k. inputPlace k) n
 unfolding inputBound bound
 input-open n h = rw (eq-eqb n 4294967295 h)
 
-pub input-at : (n : ℕ) → (n ≡ 4294967295 → ⊥) → inputBound (InputAt (record { 0 = n })) ≡ bound (λ k. input k) n
-unfolding inputBound bound input
+pub input-at : (n : ℕ) → (n ≡ 4294967295 → ⊥) → inputBound (InputAt (record { 0 = n })) ≡ bound (λ k. inputPlace k) n
+unfolding inputBound bound inputPlace
 input-at n h = rw (ne-eqb n 4294967295 h)
 
-pub done-open : (n : ℕ) → n ≡ 4294967295 → doneBound DoneOpen ≡ bound (λ k. done k) n
+pub done-open : (n : ℕ) → n ≡ 4294967295 → doneBound DoneOpen ≡ bound (λ k. donePlace k) n
 unfolding doneBound bound
 done-open n h = rw (eq-eqb n 4294967295 h)
 
-pub done-at : (n : ℕ) → (n ≡ 4294967295 → ⊥) → doneBound (DoneAt (record { 0 = n })) ≡ bound (λ k. done k) n
-unfolding doneBound bound done
+pub done-at : (n : ℕ) → (n ≡ 4294967295 → ⊥) → doneBound (DoneAt (record { 0 = n })) ≡ bound (λ k. donePlace k) n
+unfolding doneBound bound donePlace
 done-at n h = rw (ne-eqb n 4294967295 h)
 
 -- ---- calls with operands that are made of words
 module _ {b : Buffer} {f s f′ s′ : List ℕ} {r : Reply} where
-  pub info-call : (g : Words) → Meets (λ capacity a. outputInfo capacity (seen g .glyph) (seen g .info) a) b f s r f′ s′
+  pub info-call : (g : GlyphInfo) → Meets (λ capacity a. outputInfo capacity (seen g .glyph) (seen g .info) a) b f s r f′ s′
       → Meets (λ capacity a. perform 0 capacity (c0C-output-info (g .mask) (g .cluster) (g .var0) (g .var1)) (g .glyph ∷ []) a) b f s r f′ s′
   unfolding perform
   info-call g m = rw (seen-number g, seen-info g) at m

@@ -1,15 +1,14 @@
 -- Demand 3, and the course regulations: theorems about lists of calls, and about strings of bytes.
-use mathlib.Core.{Path._≡_, Path.refl, Path.ap, Path.ap₂, Path.sym, Path._∙_, List.List, List.[], List._∷_, List.map}
+use mathlib.Core.{Path._≡_, Path.refl, Path.ap, Path.sym, Path._∙_, List.List, List.[], List._∷_, List.map}
 use Prim.Native.Nat.{ℕ}
 use lib.{ListN.length}
 use Rattle.records.specs.Glyphs.{Glyph, rename}
 use Rattle.records.proofs.Renaming.{words-rename, numbers-rename}
-use Rattle.lists.specs.{Account.Account, Account.State, Account.freshAccount, Account.renamed, Results.Outcome}
+use Rattle.lists.specs.{Account.Account, Account.State, Account.freshAccount, Account.renamed, Account.Outcome}
 use Rattle.lists.proofs.Renaming.{done-rename, passed-rename, rest-rename, state-rename, idx-rename, len-rename, outLen-rename, positions-rename, fresh-renamed, renamed-twice}
-use Rattle.commands.specs.{Calls.Worded, Calls.step, Calls.run, Bytes.readUpTo, Bytes.runRead, Bytes.runBytes, Renaming.renamedOutcome, Renaming.reworded, Renaming.renamedBytes}
-use Rattle.commands.specs.Lines.{lastLine}
-use Rattle.commands.specs.Demand.{SameList, SameAccount, SameOutcome, SameOutcomes, Renamed, forget}
-use Rattle.commands.proofs.{Renaming.step-rename, Renaming.run-rename, Bytes.string-rename, Bytes.runBytes-rename, TotalLaws.sumOf, TotalLaws.last-line-forgets}
+use Rattle.commands.specs.{Calls.Worded, Calls.step, Calls.run, Calls.readUpTo, Calls.runRead, Calls.runBytes, Claims.renamedOutcome, Claims.reworded, Claims.renamedBytes}
+use Rattle.commands.specs.Claims.{SameList, SameAccount, SameOutcome, SameOutcomes, Renamed, forget}
+use Rattle.commands.proofs.{Renaming.step-rename, Renaming.run-rename, Bytes.string-rename, Bytes.runBytes-rename}
 
 -- ---- what renaming leaves as it was
 module _ {G H : Type 0} (f : G → H) where
@@ -104,30 +103,3 @@ pub two-wordings-bytes : (first second : ℕ) (bytes others : List ℕ) (a : Acc
     → map (renamedOutcome forget) (runBytes first second bytes a) ≡ map (renamedOutcome forget) (runBytes first second others a)
 unfolding runBytes
 two-wordings-bytes first second bytes others a e = strings-alike (step 0 first second) (step-rename (λ n. 0) 0 first second) bytes others a e
-
--- ---- the line `sum`, after every command
-abbrev pub sums : List (Outcome ℕ) → List (List ℕ)
-sums os = map (λ o. lastLine (o .after)) os
-
-sums-forget : (os : List (Outcome ℕ)) → sums os ≡ map (λ o. sumOf (o .after)) (map (renamedOutcome forget) os)
-unfolding renamedOutcome
-sums-forget [] = refl
-sums-forget (o ∷ os) = ap₂ (λ (l : List ℕ) (ls : List (List ℕ)). l ∷ ls) (last-line-forgets forget (o .after)) (sums-forget os)
-
-sums-alike : (os ps : List (Outcome ℕ)) → map (renamedOutcome forget) os ≡ map (renamedOutcome forget) ps → sums os ≡ sums ps
-sums-alike os ps e = sums-forget os ∙ (ap (map (λ o. sumOf (o .after))) e ∙ sym (sums-forget ps))
-
--- renamed, it is the same
-pub demand-3-sums : (f : ℕ → ℕ) → f 0 ≡ 0 → (level wants first second : ℕ) (bytes : List ℕ)
-    → let a = freshAccount level wants in
-    sums (runBytes first second (renamedBytes f bytes) a) ≡ sums (runBytes first second bytes a)
-demand-3-sums f keeps-zero level wants first second bytes =
-    let a : Account ℕ = freshAccount level wants in
-    let renaming = rw (fresh-renamed f level wants) at (runBytes-rename f keeps-zero first second bytes a) in
-    rw renaming (sums-alike (map (renamedOutcome f) (runBytes first second bytes a)) (runBytes first second bytes a) (outcomes-twice f forget (runBytes first second bytes a)))
-
--- and of two strings that differ in glyph numbers only
-pub two-wordings-sums : (first second : ℕ) (bytes others : List ℕ) (a : Account ℕ)
-    → renamedBytes (λ w. 0) bytes ≡ renamedBytes (λ w. 0) others
-    → sums (runBytes first second bytes a) ≡ sums (runBytes first second others a)
-two-wordings-sums first second bytes others a e = sums-alike (runBytes first second bytes a) (runBytes first second others a) (two-wordings-bytes first second bytes others a e)

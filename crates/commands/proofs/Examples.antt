@@ -1,12 +1,10 @@
--- Document 01's starred examples, its traps, and points where it can be misread, as one table. A case is a script for a fresh buffer, and what it prints.
-use mathlib.Core.{Path._≡_, Path.refl, Path.ap, Bool.cond, Bool.false, Option.none, Option.some, List.List, List.[], List._∷_, List._++_, List.map}
-use Prim.Native.Nat.{ℕ, zero, suc, _*_, max}
-use native.Mathlib.Nat.{zero-add, sub-zero}
-use lib.{Dec.leb, Dec.ltb, Seq.take-nil, ListN.replicate, ListN.length-replicate, ListN.length-map}
-use Rattle.records.specs.{Position, Answers.Said, Answers.ok, Answers.okWith, Answers.no, Glyphs.Glyph, Glyphs.blank, Ranges.copies}
-use Rattle.lists.specs.{Account.Account, Account.len, Account.idx, Account.outLen, Account.positions, Account.freshAccount, Results.Outcome}
-use Rattle.commands.specs.Calls.{Call, Worded, run, c00-fresh, c01-push, c02-set-length, c03-clear-output, c04-sync, c05-clear-positions, c06-place, c07-next-glyph, c08-next-glyphs, c09-skip-glyph, c0A-copy-glyph, c0B-output-glyph, c0C-output-info, c0D-replace-glyph, c0E-replace-glyphs, c0F-delete-glyph, c10-move-to, c11-merge-clusters, c12-merge-out-clusters, c13-merge-grapheme-clusters, c14-merge-out-grapheme-clusters, c15-unsafe-to-break, c16-unsafe-to-concat, c17-safe-to-insert-tatweel, c18-unsafe-to-break-from-outbuffer, c19-unsafe-to-concat-from-outbuffer, c1A-set-masks, c1B-reverse, c1C-reverse-range, c1D-reverse-clusters, c1E-reverse-graphemes, c1F-reset-clusters, c20-sort, c21-delete-glyphs-inplace, c22-form-clusters, c23-propagate-flags, c24-enter, c25-leave, c26-allocate-lig-id}
-use Rattle.commands.specs.Bytes.{runBytes, input, done}
+-- Document 01's traps, and points where it can be misread, as one table beside that of its starred examples (specs/Table). A case is a script for a fresh buffer, and what it prints.
+use mathlib.Core.{Path._≡_, Path.refl, Bool.cond, Option.none, Option.some, List.List, List.[], List._∷_, List._++_, List.map}
+use Prim.Native.Nat.{ℕ, zero, suc}
+use Rattle.records.specs.{Position, Answers.Said, Answers.ok, Answers.okWith, Answers.no, Glyphs.Glyph}
+use Rattle.lists.specs.{Account.Account, Account.len, Account.idx, Account.outLen, Account.positions, Account.freshAccount, Account.Outcome}
+use Rattle.commands.specs.Calls.{Call, Worded, run, c00-fresh, c01-push, c02-set-length, c03-clear-output, c04-sync, c05-clear-positions, c06-place, c07-next-glyph, c08-next-glyphs, c09-skip-glyph, c0A-copy-glyph, c0B-output-glyph, c0C-output-info, c0D-replace-glyph, c0E-replace-glyphs, c0F-delete-glyph, c10-move-to, c11-merge-clusters, c12-merge-out-clusters, c13-merge-grapheme-clusters, c14-merge-out-grapheme-clusters, c15-unsafe-to-break, c16-unsafe-to-concat, c17-safe-to-insert-tatweel, c18-unsafe-to-break-from-outbuffer, c19-unsafe-to-concat-from-outbuffer, c1A-set-masks, c1B-reverse, c1C-reverse-range, c1D-reverse-clusters, c1E-reverse-graphemes, c1F-reset-clusters, c21-delete-glyphs-inplace, c22-form-clusters, c23-propagate-flags, c24-enter, c25-leave, c26-allocate-lig-id}
+use Rattle.commands.specs.Calls.{runBytes, inputPlace, donePlace}
 use Rattle.commands.proofs.Executable.{executable}
 
 -- ---- what is printed
@@ -41,9 +39,9 @@ page os a = record {
 }
 
 -- the account that a run leaves
-unfoldable pub left : List (Outcome ℕ) → Account ℕ → Account ℕ
-left [] a = a
-left (o ∷ os) a = left os (o .after)
+unfoldable pub leftBy : List (Outcome ℕ) → Account ℕ → Account ℕ
+leftBy [] a = a
+leftBy (o ∷ os) a = leftBy os (o .after)
 
 -- ---- cases
 data Script : Type 0 where
@@ -67,9 +65,9 @@ record Case : Type 0 where
 Right : Case → Type 0
 Right c =
     let start = freshAccount (c .level) (c .wants) in
-    let a = left (run 0 (c .first) (c .second) (c .setUp) start) start in
+    let a = leftBy (run 0 (c .first) (c .second) (c .setUp) start) start in
     let os = ran (c .first) (c .second) (c .script) a in
-    page os (left os a) ≡ c .prints
+    page os (leftBy os a) ≡ c .prints
 
 abbrev AllRight : List Case → Type 0
 AllRight [] = Unit {0}
@@ -144,38 +142,15 @@ bytes-1 = 1 ∷ (word 41 ++ (word 0 ++ (1 ∷ (word 42 ++ (word 1 ++ (1 ∷ (wor
 page-1 : Page
 page-1 = shows (ok ∷ ok ∷ ok ∷ ok ∷ ok ∷ okWith 1 ∷ []) (end 2 0 0 536870909 1) [] [] (g 99 0 0 ∷ g 43 2 0 ∷ [])
 
--- ★4: `enter` on a run of n glyphs, in the largest buffer
-entering : ℕ → ℕ → Case
-entering n ops = lent 5242880 5242880 (call (c02-set-length n) ∷ []) (call c24-enter ∷ []) (shows (ok ∷ []) (end n 0 0 ops 1) [] [] (replicate n (g 0 0 0)))
-
 table : List Case
 table =
-    -- ★4
-    entering 524287 2147479552
-    ∷ entering 524288 536870911
-    -- ★1
-    ∷ on 0 0 [] (push 41 0 ∷ push 42 1 ∷ push 43 2 ∷ call c03-clear-output ∷ replaceGlyphs 2 1 (99 ∷ []) ∷ call c04-sync ∷ []) page-1
-    -- ★1, from bytes
-    ∷ read bytes-1 page-1
-    -- ★2
-    ∷ on 0 0 (call (c02-set-length 16) ∷ []) (call c24-enter ∷ []) (shows (ok ∷ []) (end 16 0 0 65536 1) [] [] (replicate 16 (g 0 0 0)))
-    ∷ on 0 0 (call (c02-set-length 17) ∷ []) (call c24-enter ∷ []) (shows (ok ∷ []) (end 17 0 0 69632 1) [] [] (replicate 17 (g 0 0 0)))
-    -- ★5
-    ∷ on 0 0 (replicate 7 (call c26-allocate-lig-id)) (call c26-allocate-lig-id ∷ []) (drew (okWith 1 ∷ []) 9)
-    ∷ on 0 0 (replicate 224 (call c26-allocate-lig-id)) (call c26-allocate-lig-id ∷ []) (drew (okWith 1 ∷ []) 1)
-    -- ★6
-    ∷ on 0 0 (pushes 1 (2 ∷ 3 ∷ 3 ∷ [])) (call (c11-merge-clusters (input 0) (input 2)) ∷ []) (shows (ok ∷ []) (end 3 0 0 536870909 1) [] [] (g 1 2 0 ∷ g 2 2 0 ∷ g 3 2 0 ∷ []))
-    -- ★7
-    ∷ on 0 0 (pushes 65 (0 ∷ [])) (call c03-clear-output ∷ info 66 0 7 0 ∷ info 67 0 8 0 ∷ call (c10-move-to 0) ∷ []) (shows (ok ∷ ok ∷ ok ∷ okWith 1 ∷ []) (end 3 0 0 536870908 1) [] [] (g 66 7 0 ∷ g 67 8 0 ∷ g 65 0 0 ∷ []))
-    -- ★8
-    ∷ on 0 0 (made (info 1 0 0 2 ∷ info 2 0 1 1 ∷ info 3 0 2 1 ∷ [])) (call (c20-sort (input 0) (input 3) 0 4294967295) ∷ []) (shows (ok ∷ []) (end 3 0 0 536870907 1) [] [] (gv 2 0 0 1 ∷ gv 3 0 0 1 ∷ gv 1 0 0 2 ∷ []))
-    -- ★9
-    ∷ on 0 3 (made (info 1 1 5 0 ∷ info 2 4 5 0 ∷ [])) (call c23-propagate-flags ∷ []) (shows (ok ∷ []) (end 2 0 0 536870911 1) [] [] (g 1 5 1 ∷ g 2 5 1 ∷ []))
+    -- ★1, by direct calls
+    on 0 0 [] (push 41 0 ∷ push 42 1 ∷ push 43 2 ∷ call c03-clear-output ∷ replaceGlyphs 2 1 (99 ∷ []) ∷ call c04-sync ∷ []) page-1
     -- trap: clamping before the 255 test
-    ∷ on 0 0 (pushes 1 (0 ∷ 1 ∷ [])) (call (c15-unsafe-to-break (some (input 0)) (some (input 300))) ∷ []) (shows (ok ∷ []) (end 2 0 0 536870911 1) [] [] (g 1 0 0 ∷ g 2 1 0 ∷ []))
-    ∷ on 0 0 (pushes 1 (0 ∷ 1 ∷ [])) (call (c15-unsafe-to-break (some (input 0)) (some (input 255))) ∷ []) (shows (ok ∷ []) (end 2 0 0 536870911 1) [] [] (g 1 0 0 ∷ g 2 1 3 ∷ []))
+    ∷ on 0 0 (pushes 1 (0 ∷ 1 ∷ [])) (call (c15-unsafe-to-break (some (inputPlace 0)) (some (inputPlace 300))) ∷ []) (shows (ok ∷ []) (end 2 0 0 536870911 1) [] [] (g 1 0 0 ∷ g 2 1 0 ∷ []))
+    ∷ on 0 0 (pushes 1 (0 ∷ 1 ∷ [])) (call (c15-unsafe-to-break (some (inputPlace 0)) (some (inputPlace 255))) ∷ []) (shows (ok ∷ []) (end 2 0 0 536870911 1) [] [] (g 1 0 0 ∷ g 2 1 3 ∷ []))
     -- trap: growing e in a merge whose last cluster is least. It would change nothing: what it grows over has that cluster already
-    ∷ on 0 0 (made (info 1 7 3 0 ∷ info 2 7 2 0 ∷ info 3 7 2 0 ∷ [])) (call (c11-merge-clusters (input 0) (input 2)) ∷ []) (shows (ok ∷ []) (end 3 0 0 536870909 1) [] [] (g 1 2 0 ∷ g 2 2 7 ∷ g 3 2 7 ∷ []))
+    ∷ on 0 0 (made (info 1 7 3 0 ∷ info 2 7 2 0 ∷ info 3 7 2 0 ∷ [])) (call (c11-merge-clusters (inputPlace 0) (inputPlace 2)) ∷ []) (shows (ok ∷ []) (end 3 0 0 536870909 1) [] [] (g 1 2 0 ∷ g 2 2 7 ∷ g 3 2 7 ∷ []))
     -- trap: cluster 4,294,967,295 in a `set_masks` range that starts above 0
     ∷ on 0 0 (pushes 1 (5 ∷ 4294967295 ∷ [])) (call (c1A-set-masks 1 1 1 4294967295) ∷ []) (shows (ok ∷ []) (end 2 0 0 536870909 1) [] [] (g 1 5 1 ∷ g 2 4294967295 0 ∷ []))
     -- refusal 1: unequal, not whole glyphs, too long; it comes before the call's own
@@ -193,27 +168,27 @@ table =
     -- a back move past the cursor grows len and idx first
     ∷ on 0 0 (pushes 1 (0 ∷ 1 ∷ [])) (call c03-clear-output ∷ call c07-next-glyph ∷ info 3 0 5 0 ∷ info 4 0 6 0 ∷ call (c10-move-to 1) ∷ []) (shows (ok ∷ ok ∷ ok ∷ ok ∷ okWith 1 ∷ []) (end 3 0 1 536870908 1) (g 1 0 0 ∷ []) [] (g 3 5 0 ∷ g 4 6 0 ∷ g 2 1 0 ∷ []))
     -- its growth stays where the second cost fails; `max_ops` is below 0 then, and merges and masks still work
-    ∷ lent 327680 327680 (call c24-enter ∷ call (c02-set-length 65534) ∷ call (c1A-set-masks 0 1 0 1) ∷ call (c02-set-length 2) ∷ call c03-clear-output ∷ call c07-next-glyph ∷ info 3 0 5 0 ∷ info 4 0 6 0 ∷ []) (call (c10-move-to 1) ∷ call (c12-merge-out-clusters (done 1) (done 3)) ∷ call (c10-move-to 2) ∷ []) (shows (okWith 0 ∷ ok ∷ okWith 0 ∷ []) (end 3 2 3 4294967293 0) (g 0 0 0 ∷ g 3 5 0 ∷ g 4 5 0 ∷ []) [] (g 0 0 0 ∷ []))
+    ∷ lent 327680 327680 (call c24-enter ∷ call (c02-set-length 65534) ∷ call (c1A-set-masks 0 1 0 1) ∷ call (c02-set-length 2) ∷ call c03-clear-output ∷ call c07-next-glyph ∷ info 3 0 5 0 ∷ info 4 0 6 0 ∷ []) (call (c10-move-to 1) ∷ call (c12-merge-out-clusters (donePlace 1) (donePlace 3)) ∷ call (c10-move-to 2) ∷ []) (shows (okWith 0 ∷ ok ∷ okWith 0 ∷ []) (end 3 2 3 4294967293 0) (g 0 0 0 ∷ g 3 5 0 ∷ g 4 5 0 ∷ []) [] (g 0 0 0 ∷ []))
     -- 0B with both lists empty makes its size; 0E with *rest* empty is 3
     ∷ lent 0 0 [] (call c03-clear-output ∷ record { call = c0B-output-glyph; glyphs = 7 ∷ [] } ∷ replaceGlyphs 0 0 [] ∷ []) (shows (ok ∷ no 5 ∷ no 3 ∷ []) (end 0 0 0 536870911 1) [] [] [])
     -- 0E: 3 before 4 before 5; more numbers than stated are left
     ∷ lent 5 5 (pushes 1 (7 ∷ [])) (call c03-clear-output ∷ replaceGlyphs 2 9 [] ∷ replaceGlyphs 1 2 (8 ∷ []) ∷ replaceGlyphs 1 2 (8 ∷ 9 ∷ []) ∷ replaceGlyphs 1 1 (8 ∷ 9 ∷ []) ∷ []) (shows (ok ∷ no 3 ∷ no 4 ∷ no 5 ∷ ok ∷ []) (end 1 1 1 536870911 1) (g 8 7 0 ∷ []) [] [])
     -- positions: `place` writes four words; a push is then refusal 2, and `clear_positions` is not
-    ∷ on 0 0 (pushes 1 (0 ∷ 1 ∷ [])) (call (c06-place (input 0) 1 2 3 4) ∷ call c05-clear-positions ∷ call (c06-place (input 2) 1 2 3 4) ∷ call (c06-place (input 0) 1 2 3 4294967295) ∷ call c1B-reverse ∷ push 3 2 ∷ []) (places (no 2 ∷ ok ∷ no 3 ∷ ok ∷ ok ∷ no 2 ∷ []) (end 2 0 0 536870911 1) (g 2 1 0 ∷ g 1 0 0 ∷ []) ((0 ∷ 0 ∷ 0 ∷ 0 ∷ 0 ∷ []) ∷ (1 ∷ 2 ∷ 3 ∷ 4294967295 ∷ 0 ∷ []) ∷ []))
+    ∷ on 0 0 (pushes 1 (0 ∷ 1 ∷ [])) (call (c06-place (inputPlace 0) 1 2 3 4) ∷ call c05-clear-positions ∷ call (c06-place (inputPlace 2) 1 2 3 4) ∷ call (c06-place (inputPlace 0) 1 2 3 4294967295) ∷ call c1B-reverse ∷ push 3 2 ∷ []) (places (no 2 ∷ ok ∷ no 3 ∷ ok ∷ ok ∷ no 2 ∷ []) (end 2 0 0 536870911 1) (g 2 1 0 ∷ g 1 0 0 ∷ []) ((0 ∷ 0 ∷ 0 ∷ 0 ∷ 0 ∷ []) ∷ (1 ∷ 2 ∷ 3 ∷ 4294967295 ∷ 0 ∷ []) ∷ []))
     -- the whole run is not to be had behind the cursor; `clear_positions` is, and all are 0 again
-    ∷ record { first = 10240; second = 10240; level = 0; wants = 0; setUp = pushes 1 (0 ∷ 1 ∷ []); script = calls (call c05-clear-positions ∷ call (c06-place (input 1) 5 6 7 8) ∷ call c07-next-glyph ∷ call c1B-reverse ∷ call c05-clear-positions ∷ []); prints = record { answers = ok ∷ ok ∷ ok ∷ no 2 ∷ ok ∷ []; end = end 2 1 0 536870911 1; serial = 0; o = []; p = g 1 0 0 ∷ []; i = g 2 1 0 ∷ []; x = (0 ∷ 0 ∷ 0 ∷ 0 ∷ 0 ∷ []) ∷ (0 ∷ 0 ∷ 0 ∷ 0 ∷ 0 ∷ []) ∷ [] } }
+    ∷ record { first = 10240; second = 10240; level = 0; wants = 0; setUp = pushes 1 (0 ∷ 1 ∷ []); script = calls (call c05-clear-positions ∷ call (c06-place (inputPlace 1) 5 6 7 8) ∷ call c07-next-glyph ∷ call c1B-reverse ∷ call c05-clear-positions ∷ []); prints = record { answers = ok ∷ ok ∷ ok ∷ no 2 ∷ ok ∷ []; end = end 2 1 0 536870911 1; serial = 0; o = []; p = g 1 0 0 ∷ []; i = g 2 1 0 ∷ []; x = (0 ∷ 0 ∷ 0 ∷ 0 ∷ 0 ∷ []) ∷ (0 ∷ 0 ∷ 0 ∷ 0 ∷ 0 ∷ []) ∷ [] } }
     -- without output a merge may start below the cursor; then s does not fall
-    ∷ on 0 0 (pushes 1 (4 ∷ 4 ∷ 3 ∷ 9 ∷ [])) (call (c08-next-glyphs 2) ∷ call (c11-merge-clusters (input 1) (input 3)) ∷ []) (shows (ok ∷ ok ∷ []) (end 4 2 0 536870909 1) [] (g 1 4 0 ∷ g 2 3 0 ∷ []) (g 3 3 0 ∷ g 4 9 0 ∷ []))
+    ∷ on 0 0 (pushes 1 (4 ∷ 4 ∷ 3 ∷ 9 ∷ [])) (call (c08-next-glyphs 2) ∷ call (c11-merge-clusters (inputPlace 1) (inputPlace 3)) ∷ []) (shows (ok ∷ ok ∷ []) (end 4 2 0 536870909 1) [] (g 1 4 0 ∷ g 2 3 0 ∷ []) (g 3 3 0 ∷ g 4 9 0 ∷ []))
     -- a level above 3 reads as 0; s falls over the equals of the first
-    ∷ on 4 0 (pushes 1 (7 ∷ 5 ∷ 5 ∷ 3 ∷ [])) (call (c11-merge-clusters (input 2) (input 4)) ∷ []) (shows (ok ∷ []) (end 4 0 0 536870909 1) [] [] (g 1 7 0 ∷ g 2 3 0 ∷ g 3 3 0 ∷ g 4 3 0 ∷ []))
+    ∷ on 4 0 (pushes 1 (7 ∷ 5 ∷ 5 ∷ 3 ∷ [])) (call (c11-merge-clusters (inputPlace 2) (inputPlace 4)) ∷ []) (shows (ok ∷ []) (end 4 0 0 536870909 1) [] [] (g 1 7 0 ∷ g 2 3 0 ∷ g 3 3 0 ∷ g 4 3 0 ∷ []))
     -- a merge at the cursor takes the equal tail of *done* with it
-    ∷ on 0 0 (pushes 1 (1 ∷ 4 ∷ 4 ∷ 3 ∷ [])) (call c03-clear-output ∷ call (c08-next-glyphs 2) ∷ call (c11-merge-clusters (input 2) (input 4)) ∷ []) (shows (ok ∷ ok ∷ ok ∷ []) (end 4 2 2 536870909 1) (g 1 1 0 ∷ g 2 3 0 ∷ []) [] (g 3 3 0 ∷ g 4 3 0 ∷ []))
+    ∷ on 0 0 (pushes 1 (1 ∷ 4 ∷ 4 ∷ 3 ∷ [])) (call c03-clear-output ∷ call (c08-next-glyphs 2) ∷ call (c11-merge-clusters (inputPlace 2) (inputPlace 4)) ∷ []) (shows (ok ∷ ok ∷ ok ∷ []) (end 4 2 2 536870909 1) (g 1 1 0 ∷ g 2 3 0 ∷ []) [] (g 3 3 0 ∷ g 4 3 0 ∷ []))
     -- at levels 2 and 3 a merge flags, with its rule of 255
-    ∷ on 2 0 (call (c02-set-length 256) ∷ call c1F-reset-clusters ∷ []) (call (c11-merge-clusters (input 0) (input 256)) ∷ []) (shows (ok ∷ []) (end 256 0 0 536870911 1) [] [] (rows 0 0 256))
-    ∷ on 2 0 (call (c02-set-length 256) ∷ call c1F-reset-clusters ∷ []) (call (c11-merge-clusters (input 0) (input 255)) ∷ []) (shows (ok ∷ []) (end 256 0 0 536870911 1) [] [] (g 0 0 0 ∷ (rows 1 3 254 ++ (g 0 255 0 ∷ []))))
+    ∷ on 2 0 (call (c02-set-length 256) ∷ call c1F-reset-clusters ∷ []) (call (c11-merge-clusters (inputPlace 0) (inputPlace 256)) ∷ []) (shows (ok ∷ []) (end 256 0 0 536870911 1) [] [] (rows 0 0 256))
+    ∷ on 2 0 (call (c02-set-length 256) ∷ call c1F-reset-clusters ∷ []) (call (c11-merge-clusters (inputPlace 0) (inputPlace 255)) ∷ []) (shows (ok ∷ []) (end 256 0 0 536870911 1) [] [] (g 0 0 0 ∷ (rows 1 3 254 ++ (g 0 255 0 ∷ []))))
     -- the grapheme kinds merge at levels 0 and 3, and flag at 1 and 2
-    ∷ on 3 0 (pushes 1 (0 ∷ 1 ∷ [])) (call (c13-merge-grapheme-clusters (input 0) (input 2)) ∷ []) (shows (ok ∷ []) (end 2 0 0 536870909 1) [] [] (g 1 0 0 ∷ g 2 0 0 ∷ []))
-    ∷ on 1 0 (pushes 1 (0 ∷ 1 ∷ [])) (call (c13-merge-grapheme-clusters (input 0) (input 2)) ∷ []) (shows (ok ∷ []) (end 2 0 0 536870911 1) [] [] (g 1 0 0 ∷ g 2 1 3 ∷ []))
+    ∷ on 3 0 (pushes 1 (0 ∷ 1 ∷ [])) (call (c13-merge-grapheme-clusters (inputPlace 0) (inputPlace 2)) ∷ []) (shows (ok ∷ []) (end 2 0 0 536870909 1) [] [] (g 1 0 0 ∷ g 2 0 0 ∷ []))
+    ∷ on 1 0 (pushes 1 (0 ∷ 1 ∷ [])) (call (c13-merge-grapheme-clusters (inputPlace 0) (inputPlace 2)) ∷ []) (shows (ok ∷ []) (end 2 0 0 536870911 1) [] [] (g 1 0 0 ∷ g 2 1 3 ∷ []))
     -- a deleted glyph hands its mask on with its cluster
     ∷ on 0 0 (pushes 1 (5 ∷ [])) (call c03-clear-output ∷ info 8 7 9 0 ∷ info 9 7 9 0 ∷ call c0F-delete-glyph ∷ []) (shows (ok ∷ ok ∷ ok ∷ ok ∷ []) (end 1 1 2 536870911 1) (g 8 5 0 ∷ g 9 5 0 ∷ []) [] [])
     ∷ on 0 0 (made (info 1 6 5 0 ∷ [])) (call c03-clear-output ∷ info 8 1 9 0 ∷ call c0F-delete-glyph ∷ []) (shows (ok ∷ ok ∷ ok ∷ []) (end 1 1 1 536870911 1) (g 8 5 6 ∷ []) [] [])
@@ -221,11 +196,11 @@ table =
     ∷ on 0 0 (made (info 1 0 0 3 ∷ info 2 0 1 2 ∷ [])) (call (c21-delete-glyphs-inplace 0 1 3) ∷ []) (shows (ok ∷ []) (end 2 0 0 536870911 1) [] [] (gv 1 0 0 3 ∷ gv 2 1 0 2 ∷ []))
     ∷ on 0 0 (made (info 1 0 0 3 ∷ info 2 0 1 2 ∷ [])) (call (c21-delete-glyphs-inplace 0 1 1) ∷ []) (shows (ok ∷ []) (end 1 0 0 536870909 1) [] [] (gv 2 0 0 2 ∷ []))
     -- 18 seeks m among the ends of both ranges, and has no rule of two glyphs
-    ∷ on 0 0 (pushes 1 (3 ∷ [])) (call c03-clear-output ∷ info 8 0 5 0 ∷ info 9 0 1 0 ∷ call (c18-unsafe-to-break-from-outbuffer (some (done 0)) (some (input 1))) ∷ []) (shows (ok ∷ ok ∷ ok ∷ ok ∷ []) (end 1 0 2 536870911 1) (g 8 5 3 ∷ g 9 1 0 ∷ []) [] (g 1 3 3 ∷ []))
+    ∷ on 0 0 (pushes 1 (3 ∷ [])) (call c03-clear-output ∷ info 8 0 5 0 ∷ info 9 0 1 0 ∷ call (c18-unsafe-to-break-from-outbuffer (some (donePlace 0)) (some (inputPlace 1))) ∷ []) (shows (ok ∷ ok ∷ ok ∷ ok ∷ []) (end 1 0 2 536870911 1) (g 8 5 3 ∷ g 9 1 0 ∷ []) [] (g 1 3 3 ∷ []))
     -- bounds: a start past its end is too far; over len it is 3, unless too far; an unwanted concat is accepted, after 2
-    ∷ on 0 0 (pushes 1 (0 ∷ 1 ∷ [])) (call (c15-unsafe-to-break (some (input 3)) (some (input 1))) ∷ call (c15-unsafe-to-break (some (input 3)) (some (input 4))) ∷ call (c15-unsafe-to-break (some (input 3)) (some (input 300))) ∷ call (c16-unsafe-to-concat (some (input 3)) (some (input 4))) ∷ call (c19-unsafe-to-concat-from-outbuffer none none) ∷ []) (shows (ok ∷ no 3 ∷ ok ∷ ok ∷ no 2 ∷ []) (end 2 0 0 536870911 1) [] [] (g 1 0 0 ∷ g 2 1 0 ∷ []))
+    ∷ on 0 0 (pushes 1 (0 ∷ 1 ∷ [])) (call (c15-unsafe-to-break (some (inputPlace 3)) (some (inputPlace 1))) ∷ call (c15-unsafe-to-break (some (inputPlace 3)) (some (inputPlace 4))) ∷ call (c15-unsafe-to-break (some (inputPlace 3)) (some (inputPlace 300))) ∷ call (c16-unsafe-to-concat (some (inputPlace 3)) (some (inputPlace 4))) ∷ call (c19-unsafe-to-concat-from-outbuffer none none) ∷ []) (shows (ok ∷ no 3 ∷ ok ∷ ok ∷ no 2 ∷ []) (end 2 0 0 536870911 1) [] [] (g 1 0 0 ∷ g 2 1 0 ∷ []))
     -- with output and idx over 0 an open start is 3
-    ∷ on 0 1 (pushes 1 (0 ∷ 1 ∷ 2 ∷ [])) (call c03-clear-output ∷ call c07-next-glyph ∷ call (c15-unsafe-to-break none none) ∷ call (c16-unsafe-to-concat (some (input 1)) none) ∷ []) (shows (ok ∷ ok ∷ no 3 ∷ ok ∷ []) (end 3 1 1 536870911 1) (g 1 0 0 ∷ []) [] (g 2 1 2 ∷ g 3 2 2 ∷ []))
+    ∷ on 0 1 (pushes 1 (0 ∷ 1 ∷ 2 ∷ [])) (call c03-clear-output ∷ call c07-next-glyph ∷ call (c15-unsafe-to-break none none) ∷ call (c16-unsafe-to-concat (some (inputPlace 1)) none) ∷ []) (shows (ok ∷ ok ∷ no 3 ∷ ok ∷ []) (end 3 1 1 536870911 1) (g 1 0 0 ∷ []) [] (g 2 1 2 ∷ g 3 2 2 ∷ []))
     -- tatweel wanted, concat unwanted: a joined 4 becomes 5
     ∷ on 0 2 (made (info 1 4 5 0 ∷ [])) (call c23-propagate-flags ∷ []) (shows (ok ∷ []) (end 1 0 0 536870911 1) [] [] (g 1 5 5 ∷ []))
     -- at level 1 each grapheme is merged, then the groups turn
@@ -233,12 +208,12 @@ table =
     -- copies and replacements are of the first of *rest*
     ∷ on 0 0 (pushes 1 (4 ∷ [])) (call c03-clear-output ∷ call c0A-copy-glyph ∷ record { call = c0D-replace-glyph; glyphs = 9 ∷ [] } ∷ []) (shows (ok ∷ ok ∷ ok ∷ []) (end 1 1 2 536870911 1) (g 1 4 0 ∷ g 9 4 0 ∷ []) [] [])
     -- 14 merges at levels 0 and 3, and does nothing at 1 and 2
-    ∷ on 3 0 [] (call c03-clear-output ∷ info 1 0 5 0 ∷ info 2 0 4 0 ∷ call (c12-merge-out-clusters (done 0) (done 2)) ∷ call (c14-merge-out-grapheme-clusters (done 0) (done 2)) ∷ []) (shows (ok ∷ ok ∷ ok ∷ ok ∷ ok ∷ []) (end 0 0 2 536870909 1) (g 1 4 0 ∷ g 2 4 0 ∷ []) [] [])
+    ∷ on 3 0 [] (call c03-clear-output ∷ info 1 0 5 0 ∷ info 2 0 4 0 ∷ call (c12-merge-out-clusters (donePlace 0) (donePlace 2)) ∷ call (c14-merge-out-grapheme-clusters (donePlace 0) (donePlace 2)) ∷ []) (shows (ok ∷ ok ∷ ok ∷ ok ∷ ok ∷ []) (end 0 0 2 536870909 1) (g 1 4 0 ∷ g 2 4 0 ∷ []) [] [])
     -- 17, wanted and unwanted
     ∷ on 0 2 (pushes 1 (0 ∷ 1 ∷ [])) (call (c17-safe-to-insert-tatweel none none) ∷ []) (shows (ok ∷ []) (end 2 0 0 536870911 1) [] [] (g 1 0 0 ∷ g 2 1 4 ∷ []))
     ∷ on 0 1 (pushes 1 (0 ∷ 1 ∷ [])) (call (c17-safe-to-insert-tatweel none none) ∷ []) (shows (ok ∷ []) (end 2 0 0 536870911 1) [] [] (g 1 0 0 ∷ g 2 1 3 ∷ []))
     -- reversals: of a range, of clusters
-    ∷ on 0 0 (pushes 1 (0 ∷ 1 ∷ 1 ∷ [])) (call (c1C-reverse-range (input 0) (input 2)) ∷ call (c1C-reverse-range (input 2) (input 4)) ∷ call c1D-reverse-clusters ∷ []) (shows (ok ∷ no 3 ∷ ok ∷ []) (end 3 0 0 536870911 1) [] [] (g 3 1 0 ∷ g 1 0 0 ∷ g 2 1 0 ∷ []))
+    ∷ on 0 0 (pushes 1 (0 ∷ 1 ∷ 1 ∷ [])) (call (c1C-reverse-range (inputPlace 0) (inputPlace 2)) ∷ call (c1C-reverse-range (inputPlace 2) (inputPlace 4)) ∷ call c1D-reverse-clusters ∷ []) (shows (ok ∷ no 3 ∷ ok ∷ []) (end 3 0 0 536870911 1) [] [] (g 3 1 0 ∷ g 1 0 0 ∷ g 2 1 0 ∷ []))
     -- `form_clusters` merges each grapheme; `leave` gives the limits back
     ∷ on 0 0 (made (info 1 0 4 0 ∷ info 2 0 5 1 ∷ info 3 0 6 0 ∷ [])) (call c24-enter ∷ call (c22-form-clusters 0 1) ∷ call c25-leave ∷ []) (shows (ok ∷ ok ∷ ok ∷ []) (end 3 0 0 536870911 1) [] [] (gv 1 4 0 0 ∷ gv 2 4 0 1 ∷ gv 3 6 0 0 ∷ []))
     -- bytes: numbers cut off are refusal 6, which ends the reading
@@ -249,20 +224,7 @@ table =
     ∷ read (39 ∷ 3 ∷ []) (shows (no 6 ∷ []) (end 0 0 0 536870911 1) [] [] [])
     ∷ []
 
--- the length of a run that long is known by a law, and is not counted out
-enteredOps : ℕ → ℕ
-enteredOps n = cond (leb (4096 * n) 2147483647) (max (4096 * n) 65536) 536870911
-
-zero-lines : (n : ℕ) → map glyphLine (copies (blank 0) (replicate n 0)) ≡ replicate n (g 0 0 0)
-unfolding glyphLine g executable
-zero-lines zero = refl
-zero-lines (suc n) = ap {B = List (List ℕ)} (λ r. g 0 0 0 ∷ r) (zero-lines n)
-
-entering-right : (n : ℕ) → leb n 0 ≡ false → ltb 1073741823 n ≡ false → ltb 1048576 n ≡ false → Right (entering n (enteredOps n))
-unfolding Right entering page left ran lent shows call glyphLine positionLine endLine g end enteredOps executable
-entering-right n some-glyphs within-max fits = simp (some-glyphs, within-max, fits, sub-zero, zero-add, take-nil, length-map, length-replicate, zero-lines n)
-
 -- every row of the table prints what it says
 examples : AllRight table
-unfolding table Right enteredOps page left ran on lent read shows drew places glyphLine positionLine endLine g gv end pushes call push replaceGlyphs made info rows word bytes-1 page-1 executable
-examples = (entering-right 524287 refl refl refl, (entering-right 524288 refl refl refl, (refl, (refl, (refl, (refl, (refl, (refl, (refl, (refl, (refl, (refl, (refl, (refl, (refl, (refl, (refl, (refl, (refl, (refl, (refl, (refl, (refl, (refl, (refl, (refl, (refl, (refl, (refl, (refl, (refl, (refl, (refl, (refl, (refl, (refl, (refl, (refl, (refl, (refl, (refl, (refl, (refl, (refl, (refl, (refl, (refl, (refl, (refl, (refl, (refl, (refl, (refl, (refl, tt))))))))))))))))))))))))))))))))))))))))))))))))))))))
+unfolding table Right page leftBy ran on lent read shows drew places glyphLine positionLine endLine g gv end pushes call push replaceGlyphs made info rows word bytes-1 page-1 executable
+examples = (refl, (refl, (refl, (refl, (refl, (refl, (refl, (refl, (refl, (refl, (refl, (refl, (refl, (refl, (refl, (refl, (refl, (refl, (refl, (refl, (refl, (refl, (refl, (refl, (refl, (refl, (refl, (refl, (refl, (refl, (refl, (refl, (refl, (refl, (refl, (refl, (refl, (refl, (refl, (refl, (refl, (refl, (refl, tt)))))))))))))))))))))))))))))))))))))))))))

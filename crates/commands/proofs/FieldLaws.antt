@@ -5,7 +5,7 @@ use native.Mathlib.Omega.{arith}
 use native.Mathlib.Nat.{pow-suc}
 use lib.Dec.{ltb}
 use borrow.Author.Tests.{ne-eqb, ltb-true}
-use Rattle.commands.specs.Fields.{readOn, number, onto, parted, fields}
+use Rattle.commands.specs.Totals.{readOn, numberOf, onto, parted, fields}
 use Rattle.commands.specs.Lines.{digitOf, digits, decimal, ending}
 
 -- ---- numbers
@@ -26,8 +26,8 @@ read-digits (suc k) n h = tested (ltb n 10) refl (read-digits k (n / 10))
         rw (e, read-append 0 (digits k (n / 10)) (digitOf n ∷ []), r (omega arith)) (omega arith)
 
 -- a number that is printed is the number that is read
-pub number-decimal : (n : ℕ) → n < 2 ^ 64 → number (decimal n) ≡ n
-unfolding number decimal
+pub number-decimal : (n : ℕ) → n < 2 ^ 64 → numberOf (decimal n) ≡ n
+unfolding numberOf decimal
 number-decimal n h = read-digits 20 n (omega arith)
 
 -- ---- fields

@@ -2,6 +2,7 @@ pub mod Executable
 pub mod Renaming
 pub mod Bytes
 pub mod Demand
+pub mod Starred
 pub mod Examples
 pub mod Writes
 pub mod Decimals
@@ -16,3 +17,12 @@ pub mod ReportLaws
 pub mod FieldLaws
 pub mod TotalLaws
 pub mod SumIsRead
+pub mod DeskLaws
+pub mod Claims
+pub mod ClaimExamples
+pub mod ColumnLaws
+pub mod TextLaws
+pub mod PlayLaws
+pub mod MadeLaws
+pub mod PartLaws
+pub mod ProgramLaws

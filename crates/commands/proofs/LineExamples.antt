@@ -1,40 +1,47 @@
--- Document 01's first example, as the bytes that it prints, with document 02's last line; what that line says of other lists; and numbers at their limits.
-use mathlib.Core.{Path._≡_, Path.refl, List.List, List.[], List._∷_, List._++_, List.flatMap}
+-- Document 01's first example, as the bytes that it prints, with document 02's last line; two wordings that exam tells apart and desk does not; what the line `sum` says of other lists; and numbers at their limits.
+use mathlib.Core.{Path._≡_, Path.refl, Path.sym, Path.ap, Path._∙_, List.List, List.[], List._∷_, List._++_, List.flatMap}
 use Prim.Native.Nat.{ℕ}
+use native.Mathlib.Omega.{arith}
+use lib.ListN.{getD}
 use Rattle.records.specs.{Unreadable, Answers.no, Answers.refusalNumber}
-use Rattle.lists.specs.{Account.freshAccount, Results.Outcome}
-use Rattle.commands.specs.Bytes.{runBytes}
-use Rattle.commands.specs.Lines.{answerLine, positionLine, sumLine, lastLine, report}
+use Rattle.lists.specs.{Account.freshAccount}
+use Rattle.commands.specs.Calls.{runBytes}
+use Rattle.commands.specs.Claims.{renamedBytes}
+use Rattle.commands.specs.Texts.{examText, deskText}
+use Rattle.commands.specs.Lines.{answerLine, positionLine, sumLine, lastLine}
 use Rattle.commands.specs.declared.Totals.{Totals}
-use Rattle.commands.proofs.Examples.{left, word, bytes-1}
+use Rattle.commands.specs.Table.{bytesOf}
+use Rattle.commands.proofs.Examples.{leftBy, word, bytes-1}
 use Rattle.commands.proofs.Executable.{executable}
+use Rattle.commands.proofs.DeskLaws.{desk-alike}
 
--- the lines of the commands with these bytes
-answers : List ℕ → List (Outcome ℕ) → List ℕ
-answers [] os = []
-answers (b ∷ bs) [] = []
-answers (b ∷ bs) (o ∷ os) = answerLine b (o .answer) ++ answers bs os
+-- ---- two wordings: a push of glyph 41, and of glyph 42
+unfoldable pub wording-41 : List ℕ
+wording-41 = 1 ∷ (word 41 ++ word 0)
 
-printed : List ℕ → List (Outcome ℕ) → List ℕ
-printed bs os = answers bs os ++ report (left os (freshAccount 0 0))
+unfoldable pub wording-42 : List ℕ
+wording-42 = 1 ∷ (word 42 ++ word 0)
 
-example-1 : printed (1 ∷ 1 ∷ 1 ∷ 3 ∷ 14 ∷ 4 ∷ []) (runBytes 10240 10240 bytes-1 (freshAccount 0 0)) ≡
-    -- `01 ok`, three times
-    48 ∷ 49 ∷ 32 ∷ 111 ∷ 107 ∷ 10 ∷ 48 ∷ 49 ∷ 32 ∷ 111 ∷ 107 ∷ 10 ∷ 48 ∷ 49 ∷ 32 ∷ 111 ∷ 107 ∷ 10
-    -- `03 ok`, `0E ok`
-    ∷ 48 ∷ 51 ∷ 32 ∷ 111 ∷ 107 ∷ 10 ∷ 48 ∷ 69 ∷ 32 ∷ 111 ∷ 107 ∷ 10
-    -- `04 ok 1`
-    ∷ 48 ∷ 52 ∷ 32 ∷ 111 ∷ 107 ∷ 32 ∷ 49 ∷ 10
-    -- `end 2 0 0 536870909 1`
-    ∷ 101 ∷ 110 ∷ 100 ∷ 32 ∷ 50 ∷ 32 ∷ 48 ∷ 32 ∷ 48 ∷ 32 ∷ 53 ∷ 51 ∷ 54 ∷ 56 ∷ 55 ∷ 48 ∷ 57 ∷ 48 ∷ 57 ∷ 32 ∷ 49 ∷ 10
-    -- `i 99 0 0 0 0`
-    ∷ 105 ∷ 32 ∷ 57 ∷ 57 ∷ 32 ∷ 48 ∷ 32 ∷ 48 ∷ 32 ∷ 48 ∷ 32 ∷ 48 ∷ 10
-    -- `i 43 2 0 0 0`
-    ∷ 105 ∷ 32 ∷ 52 ∷ 51 ∷ 32 ∷ 50 ∷ 32 ∷ 48 ∷ 32 ∷ 48 ∷ 32 ∷ 48 ∷ 10
-    -- `sum 2 2 0`
-    ∷ 115 ∷ 117 ∷ 109 ∷ 32 ∷ 50 ∷ 32 ∷ 50 ∷ 32 ∷ 48 ∷ 10 ∷ []
-unfolding answers left printed bytes-1 word flatMap executable
-example-1 = refl
+-- they differ in glyph numbers only
+pub numbers-only : renamedBytes (λ w. 0) wording-41 ≡ renamedBytes (λ w. 0) wording-42
+unfolding wording-41 wording-42 word executable
+numbers-only = refl
+
+-- exam tells them apart, by the last digit of the number, which is byte 31 of what it prints
+pub exam-differs : examText 10240 wording-41 ≡ examText 10240 wording-42 → ⊥
+unfolding wording-41 wording-42 word flatMap executable
+exam-differs e = let digit : _≡_ {A = ℕ} 49 50 = ap (λ (l : List ℕ). getD l 31 0) e in omega (arith, digit)
+
+-- desk does not, and prints this of the one and of the other
+desk-prints : List ℕ
+desk-prints = bytesOf "01 ok\nend 1 0 0 536870911 1\ni 0 0 0 0\nsum 1 1 0\n"
+
+desk-41 : deskText 10240 wording-41 ≡ desk-prints
+unfolding wording-41 word desk-prints bytesOf flatMap executable
+desk-41 = refl
+
+desk-42 : deskText 10240 wording-42 ≡ desk-prints
+desk-42 = sym (desk-alike 10240 wording-41 wording-42 numbers-only) ∙ desk-41
 
 -- ---- the line `sum`
 -- wants, a list of commands, and the three numbers of its line `sum`
@@ -44,7 +51,7 @@ record Case : Type 0 where
   says : Totals
 
 Right : Case → Type 0
-Right c = let start = freshAccount 0 (c .wants) in lastLine (left (runBytes 10240 10240 (c .commands) start) start) ≡ sumLine (c .says)
+Right c = let start = freshAccount 0 (c .wants) in lastLine (leftBy (runBytes 10240 10240 (c .commands) start) start) ≡ sumLine (c .says)
 
 abbrev AllRight : List Case → Type 0
 AllRight [] = Unit {0}
@@ -79,18 +86,15 @@ table =
     ∷ []
 
 every-sum : AllRight table
-unfolding table Right on word pushes bytes-1 left executable
+unfolding table Right on word pushes bytes-1 leftBy executable
 every-sum = (refl, (refl, (refl, (refl, (refl, (refl, (refl, (refl, (refl, (refl, tt))))))))))
 
 -- ---- numbers at their limits
--- `FF no 6`
-no-6 : answerLine 255 (no (refusalNumber Unreadable)) ≡ 70 ∷ 70 ∷ 32 ∷ 110 ∷ 111 ∷ 32 ∷ 54 ∷ 10 ∷ []
-unfolding executable
+no-6 : answerLine 255 (no (refusalNumber Unreadable)) ≡ bytesOf "FF no 6\n"
+unfolding bytesOf executable
 no-6 = refl
 
--- `x 1 -1 2147483647 -2147483648 4294967295`
 signs : positionLine (record { «x_advance» = 1; «y_advance» = 4294967295; «x_offset» = 2147483647; «y_offset» = 2147483648; var = 4294967295 }) ≡
-    120 ∷ 32 ∷ 49 ∷ 32 ∷ 45 ∷ 49 ∷ 32 ∷ 50 ∷ 49 ∷ 52 ∷ 55 ∷ 52 ∷ 56 ∷ 51 ∷ 54 ∷ 52 ∷ 55
-    ∷ 32 ∷ 45 ∷ 50 ∷ 49 ∷ 52 ∷ 55 ∷ 52 ∷ 56 ∷ 51 ∷ 54 ∷ 52 ∷ 56 ∷ 32 ∷ 52 ∷ 50 ∷ 57 ∷ 52 ∷ 57 ∷ 54 ∷ 55 ∷ 50 ∷ 57 ∷ 53 ∷ 10 ∷ []
-unfolding executable
+    bytesOf "x 1 -1 2147483647 -2147483648 4294967295\n"
+unfolding bytesOf executable
 signs = refl

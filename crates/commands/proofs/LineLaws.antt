@@ -3,10 +3,10 @@ use mathlib.Core.{Path._≡_, Path.ap, Bool.true, List.List, List.[], List._∷_
 use Prim.Native.Nat.{ℕ}
 use Rattle.records.specs.{Glyphs.Glyph, Glyphs.change, Glyphs.withPosition, View.seen, View.stored}
 use Rattle.records.proofs.View.{seen-stored}
-use Rattle.lists.specs.{State.account, State.sound}
+use Rattle.lists.specs.{Contract.account, Contract.sound}
 use Rattle.lists.specs.declared.Buffer.{Buffer}
 use Rattle.lists.proofs.Counted.{account-limits, account-len, account-idx, account-out-len}
-use Rattle.commands.specs.Lines.{decimal, ending, endLine, endLineOf, glyphLine, sumLine, Wrote}
+use Rattle.commands.specs.{Lines.decimal, Lines.ending, Lines.endLine, inner.Writes.endLineOf, Lines.glyphLine, Lines.sumLine, Texts.Wrote}
 use Rattle.commands.specs.declared.Totals.{Totals}
 use Rattle.commands.proofs.Writes.{and-then}
 

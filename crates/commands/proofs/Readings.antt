@@ -3,14 +3,14 @@ use mathlib.Core.{Path._≡_, Path.refl, Path.ap, Path.sym, Path._∙_, Bool.Boo
 use Prim.Native.Nat.{ℕ, zero, suc, _+_, _*_, _-_, _<_, _≤_}
 use native.Mathlib.Nat.{add-zero}
 use native.Mathlib.Omega.{arith}
-use lib.{Dec.ltb, ListN.length, ListN.getD, ListN.take, ListN.drop, ListN.length-drop, ListN.List·getD-eq-default, Seq.drop-cons}
+use lib.{Dec.ltb, ListN.length, ListN.getD, ListN.take, ListN.drop, ListN.length-drop, ListN.drop-of-length-le, ListN.List·getD-eq-default, Seq.drop-cons}
 use borrow.Author.Tests.{ltb-true, ltb-false}
-use Rattle.commands.specs.Bytes.{unreadable, got, mapped, words, at, Form, unknown, plain, glyphAnd, listed, forms, readForm, readUpTo}
+use Rattle.commands.specs.Calls.{unreadable, got, mapped, words, operand, Form, unknown, operands, glyphAnd, listed, forms, readForm, front, readUpTo}
 use Rattle.records.specs.Bytes.{wordAt, wordsAt}
 use Rattle.records.proofs.ByteLaws.{length-words}
-use Rattle.commands.specs.Reading.{formOf, operandsOf, count, made, operandAt, orderAt, ordered, wordedOf, readingOf, ReadsForm, Reads}
+use Rattle.commands.specs.{Calls.formOf, Reading.operandsOf, Reading.count, Reading.made, inner.Orders.operandAt, inner.Orders.orderAt, Reading.ordered, Reading.wordedOf, Reading.readingOf, inner.Orders.ReadsForm, Reading.Reads}
 use Rattle.commands.proofs.Bytes.{listedRead, continued}
-use Rattle.commands.specs.declared.{Reading.Reading, Reading.the-variants.Command, Reading.the-variants.Unreadable, Operands.Operands, Operands.the-variants.Words, Operands.the-variants.Listed, Operands.the-variants.Unknown}
+use Rattle.commands.specs.{declared.Reading.Reading, declared.Reading.the-variants.Command, declared.Reading.the-variants.Unreadable, declared.Operands.Operands, declared.Operands.the-variants.Words, declared.Operands.the-variants.Listed, declared.Operands.the-variants.Unknown}
 
 -- ---- words
 cut : (n : ℕ) (l : List ℕ) → length l < 4 → words (suc n) l ≡ unreadable
@@ -97,14 +97,14 @@ module _ (s : List ℕ) (from n : ℕ) where
   form-cut : (x : Form) → operandsOf x ≡ Words n → from ≤ length s → length s - from < 4 * n → readForm x (drop from s) ≡ unreadable
   unfolding readForm operandsOf count mapped isListed
   form-cut unknown e h k = refl
-  form-cut (plain m f) e h k = let i : m ≡ n = ap count e in rw (i, words-cut n s from h k)
+  form-cut (operands m f) e h k = let i : m ≡ n = ap count e in rw (i, words-cut n s from h k)
   form-cut (glyphAnd m f) e h k = let i : suc m ≡ n = ap count e in rw (i, words-cut n s from h k)
   form-cut (listed f) e h k = absurd (false≢true (sym (ap isListed e)))
 
   form-read : (x : Form) → operandsOf x ≡ Words n → from + 4 * n ≤ length s → (gs : List ℕ) → readForm x (drop from s) ≡ got (made x (wordsAt s from n) gs) (drop (from + 4 * n) s)
   unfolding readForm operandsOf count mapped made isListed isKnown
   form-read unknown e h gs = absurd (false≢true (ap isKnown e))
-  form-read (plain m f) e h gs = let i : m ≡ n = ap count e in rw (i, words-read n s from h)
+  form-read (operands m f) e h gs = let i : m ≡ n = ap count e in rw (i, words-read n s from h)
   form-read (glyphAnd m f) e h gs = let i : suc m ≡ n = ap count e in rw (i, words-read n s from h)
   form-read (listed f) e h gs = absurd (false≢true (sym (ap isListed e)))
 
@@ -112,22 +112,22 @@ module _ (s : List ℕ) (from : ℕ) where
   listed-cut : (x : Form) → operandsOf x ≡ Listed → from ≤ length s → length s - from < 8 → readForm x (drop from s) ≡ unreadable
   unfolding readForm listedRead operandsOf isListed
   listed-cut unknown e h k = refl
-  listed-cut (plain m f) e h k = absurd (false≢true (ap isListed e))
+  listed-cut (operands m f) e h k = absurd (false≢true (ap isListed e))
   listed-cut (glyphAnd m f) e h k = absurd (false≢true (ap isListed e))
   listed-cut (listed f) e h k = ap (listedRead f) (words-cut 2 s from h k)
 
   numbers-cut : (x : Form) → operandsOf x ≡ Listed → from + 8 ≤ length s → length s - (from + 8) < 4 * wordAt s (from + 4) → readForm x (drop from s) ≡ unreadable
-  unfolding readForm listedRead operandsOf isListed mapped wordsAt at
+  unfolding readForm listedRead operandsOf isListed mapped wordsAt operand
   numbers-cut unknown e h k = refl
-  numbers-cut (plain m f) e h k = absurd (false≢true (ap isListed e))
+  numbers-cut (operands m f) e h k = absurd (false≢true (ap isListed e))
   numbers-cut (glyphAnd m f) e h k = absurd (false≢true (ap isListed e))
   numbers-cut (listed f) e h k = ap (listedRead f) (words-read 2 s from h) ∙ rw (words-cut (wordAt s (from + 4)) s (from + 8) h k)
 
   listed-read : (x : Form) → operandsOf x ≡ Listed → from + 8 + 4 * wordAt s (from + 4) ≤ length s
       → readForm x (drop from s) ≡ got (made x (wordsAt s from 2) (wordsAt s (from + 8) (wordAt s (from + 4)))) (drop (from + 8 + 4 * wordAt s (from + 4)) s)
-  unfolding readForm listedRead operandsOf isListed mapped made wordsAt at
+  unfolding readForm listedRead operandsOf isListed mapped made wordsAt operand
   listed-read unknown e h = absurd (false≢true (ap isListed e))
-  listed-read (plain m f) e h = absurd (false≢true (ap isListed e))
+  listed-read (operands m f) e h = absurd (false≢true (ap isListed e))
   listed-read (glyphAnd m f) e h = absurd (false≢true (ap isListed e))
   listed-read (listed f) e h = let two : from + 8 ≤ length s = omega (arith, h) in ap (listedRead f) (words-read 2 s from two) ∙ rw (words-read (wordAt s (from + 4)) s (from + 8) h)
 
@@ -181,23 +181,25 @@ module _ (s : List ℕ) (byte from : ℕ) where
     where
       unread : (x : Form) → operandsOf x ≡ Unknown → readForm x (drop from s) ≡ unreadable
       unread unknown k = refl
-      unread (plain m f) k = absurd (false≢true (sym (ap isKnown k)))
+      unread (operands m f) k = absurd (false≢true (sym (ap isKnown k)))
       unread (glyphAnd m f) k = absurd (false≢true (sym (ap isKnown k)))
       unread (listed f) k = absurd (false≢true (sym (ap isKnown k)))
 
 -- ---- a place in a string
 module _ {s : List ℕ} {at : ℕ} where
   pub reads-past : length s ≤ at → Reads s at Unreadable
-  reads-past h = record { inside = λ k. absurd (omega arith); past = λ k. refl }
+  unfolding front readingOf
+  reads-past h = record { is = ap front (drop-of-length-le s h); places = λ k. tt }
 
   pub reads-inside : {r : Reading} → at < length s → ReadsForm s (getD s at 0) (at + 1) r → Reads s at r
-  reads-inside h w = record { inside = λ k. w; past = λ k. absurd (omega arith) }
+  unfolding front
+  reads-inside h w = record { is = ap front (next s at (at + 1) h (omega arith)) ∙ w .same; places = λ k. w .ordered }
 
 -- the calls of what is left of a string go by what the reader answers at its place
 pub read-up-to : (n : ℕ) (s : List ℕ) (at : ℕ) (r : Reading) → at < length s → Reads s at r
     → readUpTo (suc n) (drop at s) ≡ continued n (readingOf s r)
-unfolding readUpTo continued
-read-up-to n s at r h w = ap (readUpTo (suc n)) (next s at (at + 1) h (omega arith)) ∙ ap (continued n) (w .inside h .same)
+unfolding readUpTo continued front
+read-up-to n s at r h w = rw (next s at (at + 1) h (omega arith)) (ap (continued n) (rw (next s at (at + 1) h (omega arith)) at (w .is)))
 
 -- an order of five operands that were read one by one
 pub order-made : (s : List ℕ) (byte from n m : ℕ) {a b c d e : ℕ} → a ≡ operandAt s from n 0 → b ≡ operandAt s from n 1 → c ≡ operandAt s from n 2 → d ≡ operandAt s from n 3 → e ≡ operandAt s from n 4

@@ -3,11 +3,11 @@ use mathlib.Core.{Path._≡_, Path.refl, Path.ap, Path._∙_, List.List, List.[]
 use Prim.Native.Nat.{ℕ}
 use lib.{ListN.getD, ListN.List·getD-map}
 use Rattle.records.specs.{Refusal}
-use Rattle.lists.specs.{Account.Account, Account.renamed, Results.Result, Results.refused, Results.accepted, Results.answered, Results.Outcome, Results.outcome, Results.renamedResult}
-use Rattle.lists.proofs.Renaming.{state-rename, refused-rename, refuse-rename, fresh-rename, enter-rename, leave-rename, allocateLigId-rename, clearOutput-rename, clearPositions-rename, nextGlyphs-rename, skipGlyph-rename, sync-rename, moveTo-rename}
+use Rattle.lists.specs.{Account.Account, Account.renamed, Account.Result, Account.refused, Account.accepted, Account.answered, Account.Outcome, Account.outcome}
+use Rattle.lists.proofs.Renaming.{renamedResult, state-rename, refused-rename, refuse-rename, fresh-rename, enter-rename, leave-rename, allocateLigId-rename, clearOutput-rename, clearPositions-rename, nextGlyphs-rename, skipGlyph-rename, sync-rename, moveTo-rename}
 use Rattle.edits.proofs.Renaming.{copyGlyph-rename, deleteGlyph-rename, deleteGlyphsInplace-rename, formClusters-rename, mergeDone-rename, mergeInput-rename, outbufferForm-rename, outputGlyph-rename, outputInfo-rename, place-rename, plainForm-rename, propagateFlags-rename, push-rename, replaceGlyphs-rename, resetClusters-rename, reverseClusters-rename, reverseGraphemes-rename, reverseRange-rename, reverseRun-rename, setLength-rename, setMasks-rename, sort-rename}
 use Rattle.commands.specs.Calls.{Call, Worded, perform, step, run, c00-fresh, c01-push, c02-set-length, c03-clear-output, c04-sync, c05-clear-positions, c06-place, c07-next-glyph, c08-next-glyphs, c09-skip-glyph, c0A-copy-glyph, c0B-output-glyph, c0C-output-info, c0D-replace-glyph, c0E-replace-glyphs, c0F-delete-glyph, c10-move-to, c11-merge-clusters, c12-merge-out-clusters, c13-merge-grapheme-clusters, c14-merge-out-grapheme-clusters, c15-unsafe-to-break, c16-unsafe-to-concat, c17-safe-to-insert-tatweel, c18-unsafe-to-break-from-outbuffer, c19-unsafe-to-concat-from-outbuffer, c1A-set-masks, c1B-reverse, c1C-reverse-range, c1D-reverse-clusters, c1E-reverse-graphemes, c1F-reset-clusters, c20-sort, c21-delete-glyphs-inplace, c22-form-clusters, c23-propagate-flags, c24-enter, c25-leave, c26-allocate-lig-id}
-use Rattle.commands.specs.Renaming.{renamedOutcome, reworded}
+use Rattle.commands.specs.Claims.{renamedOutcome, reworded}
 
 module _ {G H : Type 0} (f : G → H) where
   outcome-rename : (a : Account G) (x : Result G) → outcome (renamed f a) (renamedResult f x) ≡ renamedOutcome f (outcome a x)

@@ -1,14 +1,14 @@
 -- The lines printed at the end of a run: each by its place, and all in document 01's order.
-use mathlib.Core.{Path._≡_, Path.refl, Path.sym, Path.ap, Path.ap₂, Path._∙_, Bool.true, Bool.false, Bool.cond, List.List, List.[], List._∷_, List._++_, List.map, List.flatMap, List.append-nil, List.append-assoc}
-use Prim.Native.Nat.{ℕ, zero, suc, _+_, _-_, _<_, _^_}
+use mathlib.Core.{Path._≡_, Path.refl, Path.sym, Path.ap, Path.ap₂, Path._∙_, Bool.Bool, Bool.true, Bool.false, Bool.cond, List.List, List.[], List._∷_, List._++_, List.map, List.flatMap, List.append-nil, List.append-assoc}
+use Prim.Native.Nat.{ℕ, zero, suc, _+_, _-_, _<_, _≤_, _^_}
 use native.Mathlib.Omega.{arith}
 use lib.{ListN.length, ListN.getD, ListN.length-map, ListN.length-append, Seq.getD-at}
-use Rattle.records.specs.{Position, View.seen, View.stored}
-use Rattle.records.specs.declared.Glyph.{Glyph as Words}
-use Rattle.lists.specs.{Account.Account, Account.positions, Account.spoiledPhase, State.account, State.sound, Items.items}
-use Rattle.lists.specs.declared.{Buffer.Buffer, Item.Item, Item.the-variants.OfDone, Item.the-variants.OfPassed, Item.the-variants.OfRest, Item.the-variants.Placed, Item.the-variants.Nothing}
-use Rattle.lists.proofs.ItemLaws.{items-most, items-spoiled}
-use Rattle.commands.specs.Lines.{endLine, endLineOf, glyphLine, positionLine, itemLine, sumLine, linesAbove, lastLine, reportLines, report, reported, lineOf, Prints}
+use Rattle.records.specs.{Position, View.glyphs, View.seen, View.stored}
+use Rattle.records.specs.declared.GlyphInfo.{GlyphInfo}
+use Rattle.lists.specs.{Account.Account, Account.positions, Account.spoiledPhase, Contract.account, Contract.sound, Contract.items}
+use Rattle.lists.specs.{declared.Buffer.Buffer, declared.Item.Item, declared.Item.the-variants.OfDone, declared.Item.the-variants.OfPassed, declared.Item.the-variants.OfRest, declared.Item.the-variants.OfPosition, declared.Item.the-variants.Nothing}
+use Rattle.lists.proofs.ItemLaws.{items-few, items-most, items-spoiled}
+use Rattle.commands.specs.{Lines.endLine, inner.Writes.endLineOf, Lines.glyphLine, Lines.positionLine, Lines.itemLine, Lines.sumLine, Lines.linesAbove, Lines.lastLine, Lines.reportLines, Lines.report, Lines.reported, Lines.lineOf, Texts.Prints}
 use Rattle.commands.specs.Totals.{noTotals, countedBelow, readTotals}
 use Rattle.commands.specs.declared.Totals.{Totals}
 use Rattle.commands.proofs.LineLaws.{end-of, glyph-line}
@@ -20,7 +20,7 @@ prints-nothing = record { room = λ k. record { list = refl; next = omega arith 
 
 -- the line of each thing that a buffer shows
 module _ {item : Item} {l m : List ℕ} {at r : ℕ} where
-  module _ {g : Words} where
+  module _ {g : GlyphInfo} where
     pub prints-done : item ≡ OfDone g → Prints (glyphLine 111 (seen g)) l at r m → Prints (itemLine item) l at r m
     unfolding itemLine
     prints-done i p = rw i p
@@ -33,7 +33,7 @@ module _ {item : Item} {l m : List ℕ} {at r : ℕ} where
     unfolding itemLine
     prints-rest i p = rw i p
 
-  pub prints-placed : {q : Position} → item ≡ Placed q → Prints (positionLine q) l at r m → Prints (itemLine item) l at r m
+  pub prints-placed : {q : Position} → item ≡ OfPosition q → Prints (positionLine q) l at r m → Prints (itemLine item) l at r m
   unfolding itemLine
   prints-placed i p = rw i p
 
@@ -101,6 +101,21 @@ module _ (b : Buffer) (f s : List ℕ) where
     unfolding reported
     no-lines = rw h
 
+-- how many there are at most
+module _ (b : Buffer) (f s : List ℕ) where
+  lines-sound : sound b f s ≡ true → length (reported b f s) ≡ 2 + length (items (account b f s))
+  lines-sound h = sym (lines-counted b f s h {n = length (items (account b f s))} (rw h))
+
+  pub lines-most : length (reported b f s) ≤ 2097154
+  lines-most = by (sound b f s) refl
+    where
+      by : (t : Bool) → sound b f s ≡ t → length (reported b f s) ≤ 2097154
+      by true h = omega (arith, lines-sound h, items-most b f s h)
+      by false h = omega (arith, no-lines b f s h)
+
+  pub lines-few : sound b f s ≡ true → length (reported b f s) ≤ 2 + (length (glyphs f) + length (glyphs f))
+  lines-few h = omega (arith, lines-sound h, items-few b f s h)
+
 -- ---- all of them: "`end` ..; then done `o`, passed `p`, input `i` ..; positions `x`", and the line `sum`
 module _ (end : List ℕ) where
   -- the lines of things, and behind them one line more
@@ -123,5 +138,5 @@ report-is a =
     ∙ ap (λ (l : List ℕ). flatMap (glyphLine 112) (a .passed) ++ l)
     (lines-of end (λ g. OfRest (stored g)) (glyphLine 105) (glyph-line 105) (a .rest) _
     ∙ ap (λ (l : List ℕ). flatMap (glyphLine 105) (a .rest) ++ l)
-    (ap (lines end) (sym (append-nil (map Placed (positions a))))
-    ∙ (lines-of end Placed positionLine (λ q. refl) (positions a) [] ∙ ap (λ (l : List ℕ). flatMap positionLine (positions a) ++ l) (append-nil end))))))
+    (ap (lines end) (sym (append-nil (map OfPosition (positions a))))
+    ∙ (lines-of end OfPosition positionLine (λ q. refl) (positions a) [] ∙ ap (λ (l : List ℕ). flatMap positionLine (positions a) ++ l) (append-nil end))))))

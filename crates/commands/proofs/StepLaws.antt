@@ -6,15 +6,15 @@ use lib.{Dec.ltb, ListN.length, ListN.take, ListN.drop, ListN.drop-of-length-le,
 use borrow.Author.Tests.{ltb-true, ltb-false}
 use Rattle.records.specs.{Contradiction, Unreadable as Unread, No, Bytes.wordsAt, Bytes.wordsOf, Counters.capacityOf, Counters.rightlyLent}
 use Rattle.records.proofs.ByteLaws.{words-of-part}
-use Rattle.lists.specs.declared.{Buffer.Buffer, Reply.Reply}
-use Rattle.lists.specs.{Results.Result, Results.refused, Results.outcome, Results.refuse_when_else_, State.account, State.sound, States.reply, Contract.judged, Contract.Meets}
-use Rattle.lists.proofs.{SoundLaws.sound-lent, Calls.judged-sound, Calls.judged-unsound, Calls.outcome-refused, Simple.refuse-no}
+use Rattle.lists.specs.{declared.Buffer.Buffer, declared.Reply.Reply}
+use Rattle.lists.specs.{Account.Result, Account.refused, Account.outcome, Account.refuse_when_else_, Contract.account, Contract.sound, inner.States.reply, Contract.judged, Contract.Meets}
+use Rattle.lists.proofs.{SoundLaws.sound-lent, Calls.judged-sound, Calls.judged-unsound, Calls.outcome-refused, Calls.untouched, Simple.refuse-no}
 use Rattle.edits.specs.Writing.{replaceGlyphs}
 use Rattle.commands.specs.Calls.{Worded, perform, step, c0E-replace-glyphs}
-use Rattle.commands.specs.Bytes.{Read, unreadable, got}
+use Rattle.commands.specs.Calls.{Read, unreadable, got}
 use Rattle.commands.specs.Reading.{wordedOf, readingOf, Reads}
-use Rattle.commands.specs.Steps.{front, behind, called, stepped, Steps}
-use Rattle.commands.specs.declared.{Order.Order, Reading.Reading, Reading.the-variants.Command, Reading.the-variants.Unreadable}
+use Rattle.commands.specs.{Calls.front, Calls.behind, Runs.called, Runs.stepped, Runs.Steps}
+use Rattle.commands.specs.{declared.Order.Order, declared.Reading.Reading, declared.Reading.the-variants.Command, declared.Reading.the-variants.Unreadable}
 use Rattle.commands.proofs.Readings.{next}
 
 -- ---- calls
@@ -26,37 +26,25 @@ unfolding perform
 listed-call t from num-in num-out h m = rw (words-of-part t from (from + 4 * num-out) num-out refl h) at m
 
 -- ---- the step
-isCommand : Reading → Bool
-isCommand Unreadable = false
-isCommand (Command o) = true
+isRead : Read (Worded ℕ) → Bool
+isRead unreadable = false
+isRead (got w l) = true
 
 module _ {t : List ℕ} {at : ℕ} where
-  reads-front : (r : Reading) → at < length t → Reads t at r → front (drop at t) ≡ readingOf t r
-  unfolding front
-  reads-front r h w = ap front (next t at (at + 1) h (omega arith)) ∙ w .inside h .same
-
   -- a command stands within the string
   pub command-in : {o : Order} → Reads t at (Command o) → at < length t
-  unfolding isCommand
+  unfolding front readingOf isRead
   command-in w = tested (ltb at (length t)) refl
     where
       tested : (x : Bool) → ltb at (length t) ≡ x → at < length t
       tested true e = ltb-true _ _ e
-      tested false e = absurd (false≢true (sym (ap isCommand (w .past (ltb-false _ _ e)))))
+      tested false e = absurd (false≢true (ap isRead (sym (ap front (drop-of-length-le t (ltb-false _ _ e))) ∙ w .is)))
 
   pub command-known : {o : Order} (r : Reading) → r ≡ Command o → Reads t at r → (o .byte < 39) × (o .byte ≡ 14 → o .numbers + 4 * o .b ≤ length t)
   command-known {o} r e w =
       let here : Reads t at (Command o) = rw e at w in
-      let places = here .inside (command-in here) .ordered in
+      let places = here .places (command-in here) in
       (rw (places .byte-is) (places .known), λ h. rw (← places .listed-end (sym (places .byte-is) ∙ h)) (places .inside))
-
-  unread-front : Reads t at Unreadable → front (drop at t) ≡ unreadable
-  unfolding front readingOf
-  unread-front w = tested (ltb at (length t)) refl
-    where
-      tested : (x : Bool) → ltb at (length t) ≡ x → front (drop at t) ≡ unreadable
-      tested true e = reads-front Unreadable (ltb-true _ _ e) w
-      tested false e = ap front (drop-of-length-le t (ltb-false _ _ e))
 
 -- what a call comes to is the account's own step
 pub judged-called : (w : Worded ℕ) (b : Buffer) (f s : List ℕ) → judged (λ capacity a. perform 0 capacity (w .call) (w .glyphs) a) b f s ≡ called (sound b f s) (length f) (length s) w (account b f s)
@@ -79,14 +67,11 @@ module _ {t : List ℕ} {at : ℕ} {b : Buffer} {f s : List ℕ} {r : Reply} whe
   unfolding readingOf behind stepped
   step-obeyed o reading e v m =
       let w : Reads t at (Command o) = rw e at v in
-      let here : front (drop at t) ≡ got (wordedOf t o) (drop (o .next) t) = reads-front (Command o) (command-in w) w in
-      let places = w .inside (command-in w) .ordered in
+      let here : front (drop at t) ≡ got (wordedOf t o) (drop (o .next) t) = w .is in
+      let places = w .places (command-in w) in
       record {
         is = m .is ∙ (judged-called (wordedOf t o) b f s ∙ sym (ap (λ (x : Read (Worded ℕ)). stepped x b f s) here));
-        stays = m .stays;
-        first-beyond = m .first-beyond;
-        second-beyond = m .second-beyond;
-        stays-sound = m .stays-sound;
+        alone = m .alone;
         next-is = sym (ap behind here);
         next-in = places .inside;
         onward = λ h. omega (arith, places .onward);
@@ -94,16 +79,13 @@ module _ {t : List ℕ} {at : ℕ} {b : Buffer} {f s : List ℕ} {r : Reply} whe
 
   -- refusal 6, which ends the string
   pub step-unread : (reading : Reading) → reading ≡ Unreadable → Reads t at reading → r ≡ reply b (No Unread) → Steps t at b f s (record { reply = r; next = length t }) f s
-  unfolding behind stepped
+  unfolding readingOf behind stepped
   step-unread reading e′ v e =
       let w : Reads t at Unreadable = rw e′ at v in
-      let here : front (drop at t) ≡ unreadable = unread-front w in
+      let here : front (drop at t) ≡ unreadable = w .is in
       rw e (record {
         is = sym (ap (λ (x : Read (Worded ℕ)). stepped x b f s) here ∙ outcome-refused (account b f s) Unread);
-        stays = λ k. (refl, refl, refl);
-        first-beyond = refl;
-        second-beyond = refl;
-        stays-sound = λ k. k;
+        alone = untouched _ _ b f s;
         next-is = drop-length t ∙ sym (ap behind here);
         next-in = omega arith;
         onward = λ h. h;

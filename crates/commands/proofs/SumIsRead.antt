@@ -7,7 +7,7 @@ use lib.ListN.{length}
 use Rattle.records.specs.{Position, Glyphs.Glyph}
 use Rattle.lists.specs.Account.{Account, positions}
 use Rattle.commands.specs.Lines.{linesAbove}
-use Rattle.commands.specs.Totals.{noEntry, noTotals, plus, starts, counted, countedBelow, readTotals, groupsBelow, groupsOf, markedOf, listTotals, totals, Printable, AllPrintable}
+use Rattle.commands.specs.{Totals.noEntry, Totals.noTotals, Totals.plus, Totals.starts, Totals.counted, Totals.countedBelow, Totals.readTotals, inner.Counts.groupsBelow, inner.Counts.groupsOf, inner.Counts.markedOf, inner.Counts.listTotals, inner.Counts.totals, inner.Counts.Printable, inner.Counts.AllPrintable}
 use Rattle.commands.specs.declared.Entry.{Entry}
 use Rattle.commands.proofs.FieldLaws.{number-decimal}
 use Rattle.commands.proofs.TotalLaws.{taken, entries, lines-read, same-totals, none-plus, plus-none}

@@ -6,22 +6,22 @@ use native.Mathlib.Numerals.{add-one}
 use borrow.Author.Tests.{eq-eqb, ne-eqb}
 use lib.{Dec.eqb, ListN.length, ListN.getD, ListN.drop, ListN.drop-of-length-le, Seq.drop-cons}
 use Rattle.records.specs.{Position, Glyphs.Glyph, Glyphs.Info, View.seen, View.stored}
-use Rattle.records.specs.declared.Glyph.{Glyph as Words}
+use Rattle.records.specs.declared.GlyphInfo.{GlyphInfo}
 use Rattle.records.proofs.{View.seen-mask, View.seen-cluster, Renaming.words-rename}
-use Rattle.lists.specs.{Account.Account, Account.positions, Account.renamed, State.account, State.sound, Items.items}
-use Rattle.lists.specs.declared.{Buffer.Buffer, Item.Item, Item.the-variants.OfDone, Item.the-variants.OfPassed, Item.the-variants.OfRest, Item.the-variants.Placed, Item.the-variants.Nothing}
+use Rattle.lists.specs.{Account.Account, Account.positions, Account.renamed, Contract.account, Contract.sound, Contract.items}
+use Rattle.lists.specs.{declared.Buffer.Buffer, declared.Item.Item, declared.Item.the-variants.OfDone, declared.Item.the-variants.OfPassed, declared.Item.the-variants.OfRest, declared.Item.the-variants.OfPosition, declared.Item.the-variants.Nothing}
 use Rattle.lists.proofs.{ItemLaws.items-most, Renaming.done-rename, Renaming.passed-rename, Renaming.rest-rename, Renaming.positions-rename}
-use Rattle.commands.specs.Fields.{number}
+use Rattle.commands.specs.Totals.{numberOf}
 use Rattle.commands.specs.Lines.{decimal, glyphLine, positionLine, countersLine, endLine, itemLine, sumLine, linesAbove, lastLine}
 use Rattle.commands.specs.Totals.{isGlyphKind, noEntry, readLine, noTotals, plus, starts, counted, countedBelow, readTotals}
-use Rattle.commands.specs.declared.{Entry.Entry, Totals.Totals}
+use Rattle.commands.specs.{declared.Entry.Entry, declared.Totals.Totals}
 use Rattle.commands.proofs.LineLaws.{glyph-line}
 use Rattle.commands.proofs.FieldLaws.{number-decimal, plain-decimal, fields-line}
 
 -- ---- lines read
 -- what is read of a glyph: nothing of its number
 unfoldable pub taken : ℕ → Info → Entry
-taken kind i = record { kind = kind; cluster = number (decimal (i .cluster)); mask = number (decimal (i .mask)) }
+taken kind i = record { kind = kind; cluster = numberOf (decimal (i .cluster)); mask = numberOf (decimal (i .mask)) }
 
 -- a glyph line, whatever its kind
 read-glyph : (kind : ℕ) → isGlyphKind kind ≡ true → 32 < kind → (g : Glyph ℕ) → readLine (glyphLine kind g) ≡ taken kind (g .info)
@@ -36,38 +36,38 @@ read-end : (a : Account ℕ) → readLine (endLine a) ≡ noEntry
 unfolding readLine endLine countersLine isGlyphKind
 read-end a = refl
 
-glyph-read : (kind : ℕ) → isGlyphKind kind ≡ true → 32 < kind → (g : Words) → readLine (glyphLine kind (seen g)) ≡ record { kind = kind; cluster = number (decimal (g .cluster)); mask = number (decimal (g .mask)) }
+glyph-read : (kind : ℕ) → isGlyphKind kind ≡ true → 32 < kind → (g : GlyphInfo) → readLine (glyphLine kind (seen g)) ≡ record { kind = kind; cluster = numberOf (decimal (g .cluster)); mask = numberOf (decimal (g .mask)) }
 unfolding taken
 glyph-read kind h k g = rw (read-glyph kind h k (seen g), seen-cluster g, seen-mask g) refl
 
-nothing-read : _≡_ {A = Entry} (record { kind = 0; cluster = number (decimal 0); mask = number (decimal 0) }) noEntry
+nothing-read : _≡_ {A = Entry} (record { kind = 0; cluster = numberOf (decimal 0); mask = numberOf (decimal 0) }) noEntry
 nothing-read = rw (number-decimal 0 (omega arith)) refl
 
 -- what the code takes from each thing that a buffer shows is what is read of its line
 module _ {item : Item} {e : Entry} where
-  module _ {g : Words} where
-    pub entry-done : item ≡ OfDone g → e ≡ record { kind = 111; cluster = number (decimal (g .cluster)); mask = number (decimal (g .mask)) } → e ≡ readLine (itemLine item)
+  module _ {g : GlyphInfo} where
+    pub entry-done : item ≡ OfDone g → e ≡ record { kind = 111; cluster = numberOf (decimal (g .cluster)); mask = numberOf (decimal (g .mask)) } → e ≡ readLine (itemLine item)
     unfolding itemLine isGlyphKind
     entry-done i is = is ∙ rw i (sym (glyph-read 111 refl (omega arith) g))
 
-    pub entry-passed : item ≡ OfPassed g → e ≡ record { kind = 112; cluster = number (decimal (g .cluster)); mask = number (decimal (g .mask)) } → e ≡ readLine (itemLine item)
+    pub entry-passed : item ≡ OfPassed g → e ≡ record { kind = 112; cluster = numberOf (decimal (g .cluster)); mask = numberOf (decimal (g .mask)) } → e ≡ readLine (itemLine item)
     unfolding itemLine isGlyphKind
     entry-passed i is = is ∙ rw i (sym (glyph-read 112 refl (omega arith) g))
 
-    pub entry-rest : item ≡ OfRest g → e ≡ record { kind = 105; cluster = number (decimal (g .cluster)); mask = number (decimal (g .mask)) } → e ≡ readLine (itemLine item)
+    pub entry-rest : item ≡ OfRest g → e ≡ record { kind = 105; cluster = numberOf (decimal (g .cluster)); mask = numberOf (decimal (g .mask)) } → e ≡ readLine (itemLine item)
     unfolding itemLine isGlyphKind
     entry-rest i is = is ∙ rw i (sym (glyph-read 105 refl (omega arith) g))
 
-  pub entry-placed : {q : Position} → item ≡ Placed q → e ≡ record { kind = 0; cluster = number (decimal 0); mask = number (decimal 0) } → e ≡ readLine (itemLine item)
+  pub entry-placed : {q : Position} → item ≡ OfPosition q → e ≡ record { kind = 0; cluster = numberOf (decimal 0); mask = numberOf (decimal 0) } → e ≡ readLine (itemLine item)
   unfolding itemLine
   entry-placed {q} i is = is ∙ (nothing-read ∙ rw i (sym (read-position q)))
 
-  pub entry-nothing : item ≡ Nothing → e ≡ record { kind = 0; cluster = number (decimal 0); mask = number (decimal 0) } → e ≡ readLine (itemLine item)
+  pub entry-nothing : item ≡ Nothing → e ≡ record { kind = 0; cluster = numberOf (decimal 0); mask = numberOf (decimal 0) } → e ≡ readLine (itemLine item)
   unfolding itemLine readLine isGlyphKind
   entry-nothing i is = is ∙ (nothing-read ∙ rw i refl)
 
 -- a word that is printed is the word that is read
-pub entry-of : (kind : ℕ) {cluster mask : ℕ} → cluster < 2 ^ 32 → mask < 2 ^ 32 → _≡_ {A = Entry} (record { kind = kind; cluster = cluster; mask = mask }) (record { kind = kind; cluster = number (decimal cluster); mask = number (decimal mask) })
+pub entry-of : (kind : ℕ) {cluster mask : ℕ} → cluster < 2 ^ 32 → mask < 2 ^ 32 → _≡_ {A = Entry} (record { kind = kind; cluster = cluster; mask = mask }) (record { kind = kind; cluster = numberOf (decimal cluster); mask = numberOf (decimal mask) })
 entry-of kind {cluster} {mask} c m = rw (number-decimal cluster (omega (arith, c)), number-decimal mask (omega (arith, m))) refl
 
 -- ---- the lines of an account
@@ -97,8 +97,8 @@ items-read a =
     ∙ ap (λ (r : List Entry). map (λ g. taken 112 (g .info)) (a .passed) ++ r)
     (read-of (λ g. OfRest (stored g)) (λ g. taken 105 (g .info)) (stored-line 105 refl (omega arith)) (a .rest) _
     ∙ ap (λ (r : List Entry). map (λ g. taken 105 (g .info)) (a .rest) ++ r)
-    (ap (λ (l : List Item). map readLine (map itemLine l)) (sym (append-nil (map Placed (positions a))))
-    ∙ (read-of Placed (λ q. noEntry) read-position (positions a) [] ∙ append-nil (map (λ q. noEntry) (positions a))))))
+    (ap (λ (l : List Item). map readLine (map itemLine l)) (sym (append-nil (map OfPosition (positions a))))
+    ∙ (read-of OfPosition (λ q. noEntry) read-position (positions a) [] ∙ append-nil (map (λ q. noEntry) (positions a))))))
 
 -- ---- sums of totals
 module _ {l g m l′ g′ m′ : ℕ} where
@@ -171,7 +171,7 @@ pub record Counting (b : Buffer) (f s : List ℕ) (k : ℕ) (t : Totals) (above 
   pub fewer : t .lines + t .groups + t .marked ≤ 3 * k
 
 module _ {b : Buffer} {f s : List ℕ} where
-  pub counting-none : {above : Entry} → above ≡ record { kind = 0; cluster = number (decimal 0); mask = number (decimal 0) } → Counting b f s 0 noTotals above
+  pub counting-none : {above : Entry} → above ≡ record { kind = 0; cluster = numberOf (decimal 0); mask = numberOf (decimal 0) } → Counting b f s 0 noTotals above
   unfolding readTotals
   counting-none e = record { to-come = rw (e, nothing-read) (none-plus _); fewer = omega arith }
 

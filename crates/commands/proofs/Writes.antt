@@ -5,13 +5,13 @@ use native.Mathlib.Nat.{add-zero, add-suc, suc-add}
 use native.Mathlib.Omega.{arith}
 use lib.{ListN.length, ListN.set, ListN.length-append, Seq.sets, Dec.leb}
 use borrow.Author.Tests.{leb-true, leb-false, le-leb, lt-leb}
-use Rattle.records.specs.{Answers.said, Answers.no, Answers.refusalNumber, Counters.isNegative, View.seen, declared.Answer.Answer, declared.Answer.the-variants.No, declared.Refusal.Refusal, declared.Glyph.Glyph as Words}
+use Rattle.records.specs.{Answers.said, Answers.no, Answers.refusalNumber, Counters.isNegative, View.seen, declared.Answer.Answer, declared.Answer.the-variants.No, declared.Refusal.Refusal, declared.GlyphInfo.GlyphInfo}
 use Rattle.records.proofs.View.{seen-number, seen-mask, seen-cluster, seen-var0, seen-var1}
 use Rattle.lists.specs.{Account.spoiledPhase, declared.Buffer.Buffer}
-use Rattle.commands.specs.Lines.{decimal, digits, digitOf, signed, hex, hexDigit, ending, answerLine, countersLine, endLineOf, glyphLine, Wrote, Prints, longest}
+use Rattle.commands.specs.{Lines.decimal, Lines.digits, Lines.digitOf, Lines.signed, Lines.hex, Lines.hexDigit, Lines.ending, Lines.answerLine, Lines.countersLine, inner.Writes.endLineOf, Lines.glyphLine, Texts.Wrote, Texts.Prints, Texts.longest}
 use Rattle.commands.proofs.Decimals.{one-digit, more-digits, more-length, word-short, count-short, negative-short}
 
-sets-append : (l a b : List ℕ) (i : ℕ) → sets l i (a ++ b) ≡ sets (sets l i a) (i + length a) b
+pub sets-append : (l a b : List ℕ) (i : ℕ) → sets l i (a ++ b) ≡ sets (sets l i a) (i + length a) b
 sets-append l [] b i = rw add-zero
 sets-append l (x ∷ a) b i = sets-append (set l i x) a b (suc i) ∙ ap (λ (k : ℕ). sets (sets (set l i x) (suc i) a) k b) (suc-add i (length a) ∙ sym (add-suc i (length a)))
 
@@ -115,7 +115,7 @@ module _ {l m : List ℕ} {at r : ℕ} where
   unfolding endLineOf
   counters-written b e w = rw (← e) w
 
-  pub glyph-written : (kind : ℕ) (g : Words) → Wrote (kind ∷ ending (map decimal (g .glyph ∷ g .cluster ∷ g .mask ∷ g .var0 ∷ g .var1 ∷ []))) l at r m → Wrote (glyphLine kind (seen g)) l at r m
+  pub glyph-written : (kind : ℕ) (g : GlyphInfo) → Wrote (kind ∷ ending (map decimal (g .glyph ∷ g .cluster ∷ g .mask ∷ g .var0 ∷ g .var1 ∷ []))) l at r m → Wrote (glyphLine kind (seen g)) l at r m
   unfolding glyphLine
   glyph-written kind g w = rw (seen-number g, seen-cluster g, seen-mask g, seen-var0 g, seen-var1 g) w
 

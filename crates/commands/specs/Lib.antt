@@ -1,12 +1,9 @@
 pub mod Calls
-pub mod Bytes
-pub mod Renaming
-pub mod Demand
-pub mod Fields
+pub mod Runs
 pub mod Totals
 pub mod Lines
+pub mod Texts
+pub mod Table
+pub mod Claims
 pub mod Reading
-pub mod Scripts
-pub mod Steps
-pub mod Runs
-pub mod Returned
+pub mod inner

@@ -5,8 +5,8 @@ ghost use Prim.Native.Nat.{_+_, _*_, _<_, _≤_};
 ghost use lib.ListN.{length};
 ghost use Rattle.records.specs.Bytes.{wordsAt};
 ghost use Rattle.lists.specs.Contract.{Meets};
-ghost use Rattle.edits.specs.Bounds.{inputBound, doneBound};
-ghost use Rattle.commands.specs.Bytes.{bound, input, done};
+ghost use Rattle.edits.specs.Flags.{inputBound, doneBound};
+ghost use Rattle.commands.specs.Calls.{bound, inputPlace, donePlace};
 ghost use Rattle.commands.specs.Calls.{perform, c0C-output-info, c0E-replace-glyphs, c15-unsafe-to-break, c16-unsafe-to-concat, c17-safe-to-insert-tatweel, c18-unsafe-to-break-from-outbuffer, c19-unsafe-to-concat-from-outbuffer};
 ghost use Rattle.commands.specs.Reading.{wordedOf};
 use super::Order;
@@ -15,12 +15,12 @@ use edits::InputBound;
 use lists::Buffer;
 use lists::Reply;
 use records::DonePlace;
-use records::Glyph;
+use records::GlyphInfo;
 use records::InputPlace;
 
 // A bound in the input. The highest word is an open one.
 fn input_bound(w: u32) -> InputBound
-    ensures { λ r. ⌜ inputBound r ≡ bound (λ k. input k) w ⌝ }
+    ensures { λ r. ⌜ inputBound r ≡ bound (λ k. inputPlace k) w ⌝ }
 {
     if w == 0xFFFFFFFF {
         return InputBound::Open;
@@ -30,7 +30,7 @@ fn input_bound(w: u32) -> InputBound
 
 // A bound in *done*.
 fn done_bound(w: u32) -> DoneBound
-    ensures { λ r. ⌜ doneBound r ≡ bound (λ k. done k) w ⌝ }
+    ensures { λ r. ⌜ doneBound r ≡ bound (λ k. donePlace k) w ⌝ }
 {
     if w == 0xFFFFFFFF {
         return DoneBound::Open;
@@ -42,7 +42,7 @@ fn done_bound(w: u32) -> DoneBound
 fn output_info(b: Buffer, first: &mut [u32], second: &mut [u32], o: Order) -> Reply
     ensures { λ r. ⌜ Meets (λ capacity a. perform 0 capacity (c0C-output-info (o .b) (o .c) (o .d) (o .e)) (o .a ∷ []) a) b (now (first .entry)) (now (second .entry)) r (now (first .exit)) (now (second .exit)) ⌝ }
 {
-    let g = Glyph {
+    let g = GlyphInfo {
         glyph: o.a,
         mask: o.b,
         cluster: o.c,
@@ -79,7 +79,7 @@ fn replace_glyphs(
 
 // 15 to 19 take bounds.
 fn unsafe_to_break(b: Buffer, first: &mut [u32], second: &mut [u32], s: u32, e: u32) -> Reply
-    ensures { λ r. ⌜ Meets (λ capacity a. perform 0 capacity (c15-unsafe-to-break (bound (λ k. input k) s) (bound (λ k. input k) e)) [] a) b (now (first .entry)) (now (second .entry)) r (now (first .exit)) (now (second .exit)) ⌝ }
+    ensures { λ r. ⌜ Meets (λ capacity a. perform 0 capacity (c15-unsafe-to-break (bound (λ k. inputPlace k) s) (bound (λ k. inputPlace k) e)) [] a) b (now (first .entry)) (now (second .entry)) r (now (first .exit)) (now (second .exit)) ⌝ }
 {
     let start = input_bound(s);
     let end = input_bound(e);
@@ -87,7 +87,7 @@ fn unsafe_to_break(b: Buffer, first: &mut [u32], second: &mut [u32], s: u32, e: 
 }
 
 fn unsafe_to_concat(b: Buffer, first: &mut [u32], second: &mut [u32], s: u32, e: u32) -> Reply
-    ensures { λ r. ⌜ Meets (λ capacity a. perform 0 capacity (c16-unsafe-to-concat (bound (λ k. input k) s) (bound (λ k. input k) e)) [] a) b (now (first .entry)) (now (second .entry)) r (now (first .exit)) (now (second .exit)) ⌝ }
+    ensures { λ r. ⌜ Meets (λ capacity a. perform 0 capacity (c16-unsafe-to-concat (bound (λ k. inputPlace k) s) (bound (λ k. inputPlace k) e)) [] a) b (now (first .entry)) (now (second .entry)) r (now (first .exit)) (now (second .exit)) ⌝ }
 {
     let start = input_bound(s);
     let end = input_bound(e);
@@ -95,7 +95,7 @@ fn unsafe_to_concat(b: Buffer, first: &mut [u32], second: &mut [u32], s: u32, e:
 }
 
 fn safe_to_insert_tatweel(b: Buffer, first: &mut [u32], second: &mut [u32], s: u32, e: u32) -> Reply
-    ensures { λ r. ⌜ Meets (λ capacity a. perform 0 capacity (c17-safe-to-insert-tatweel (bound (λ k. input k) s) (bound (λ k. input k) e)) [] a) b (now (first .entry)) (now (second .entry)) r (now (first .exit)) (now (second .exit)) ⌝ }
+    ensures { λ r. ⌜ Meets (λ capacity a. perform 0 capacity (c17-safe-to-insert-tatweel (bound (λ k. inputPlace k) s) (bound (λ k. inputPlace k) e)) [] a) b (now (first .entry)) (now (second .entry)) r (now (first .exit)) (now (second .exit)) ⌝ }
 {
     let start = input_bound(s);
     let end = input_bound(e);
@@ -109,7 +109,7 @@ fn unsafe_to_break_from_outbuffer(
     s: u32,
     e: u32,
 ) -> Reply
-    ensures { λ r. ⌜ Meets (λ capacity a. perform 0 capacity (c18-unsafe-to-break-from-outbuffer (bound (λ k. done k) s) (bound (λ k. input k) e)) [] a) b (now (first .entry)) (now (second .entry)) r (now (first .exit)) (now (second .exit)) ⌝ }
+    ensures { λ r. ⌜ Meets (λ capacity a. perform 0 capacity (c18-unsafe-to-break-from-outbuffer (bound (λ k. donePlace k) s) (bound (λ k. inputPlace k) e)) [] a) b (now (first .entry)) (now (second .entry)) r (now (first .exit)) (now (second .exit)) ⌝ }
 {
     let start = done_bound(s);
     let end = input_bound(e);
@@ -123,7 +123,7 @@ fn unsafe_to_concat_from_outbuffer(
     s: u32,
     e: u32,
 ) -> Reply
-    ensures { λ r. ⌜ Meets (λ capacity a. perform 0 capacity (c19-unsafe-to-concat-from-outbuffer (bound (λ k. done k) s) (bound (λ k. input k) e)) [] a) b (now (first .entry)) (now (second .entry)) r (now (first .exit)) (now (second .exit)) ⌝ }
+    ensures { λ r. ⌜ Meets (λ capacity a. perform 0 capacity (c19-unsafe-to-concat-from-outbuffer (bound (λ k. donePlace k) s) (bound (λ k. inputPlace k) e)) [] a) b (now (first .entry)) (now (second .entry)) r (now (first .exit)) (now (second .exit)) ⌝ }
 {
     let start = done_bound(s);
     let end = input_bound(e);

@@ -3,9 +3,9 @@ ghost use mathlib.Core.Path.{_≡_};
 ghost use mathlib.Core.Bool.{true};
 ghost use mathlib.Core.List.{map};
 ghost use Prim.Native.Nat.{_+_, _<_, _^_};
-ghost use Rattle.lists.specs.Items.{items};
-ghost use Rattle.lists.specs.State.{account, sound};
-ghost use Rattle.commands.specs.Fields.{number};
+ghost use Rattle.lists.specs.Contract.{items};
+ghost use Rattle.lists.specs.Contract.{account, sound};
+ghost use Rattle.commands.specs.Totals.{numberOf};
 ghost use Rattle.commands.specs.Lines.{decimal, itemLine};
 ghost use Rattle.commands.specs.Totals.{readLine, plus, starts, counted, readTotals};
 use super::Entry;
@@ -15,7 +15,7 @@ use lists::Item;
 
 // What is read of words that are printed: the words. Kind 0 stands for a line that is no glyph's.
 fn entry_of(kind: u8, cluster: u32, mask: u32) -> Entry
-    ensures { λ r. ⌜ r ≡ record { kind = kind; cluster = number (decimal cluster); mask = number (decimal mask) } ⌝ }
+    ensures { λ r. ⌜ r ≡ record { kind = kind; cluster = numberOf (decimal cluster); mask = numberOf (decimal mask) } ⌝ }
 {
     Entry {
         kind,
@@ -32,7 +32,7 @@ fn entry(item: Item) -> Entry
         Item::OfDone(g) => entry_of(b'o', g.cluster, g.mask),
         Item::OfPassed(g) => entry_of(b'p', g.cluster, g.mask),
         Item::OfRest(g) => entry_of(b'i', g.cluster, g.mask),
-        Item::Placed(_) => entry_of(0, 0, 0),
+        Item::OfPosition(_) => entry_of(0, 0, 0),
         Item::Nothing => entry_of(0, 0, 0),
     }
 }

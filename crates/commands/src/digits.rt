@@ -3,7 +3,7 @@ ghost use mathlib.Core.Path.{_≡_};
 ghost use mathlib.Core.List.{[], _∷_};
 ghost use Prim.Native.Nat.{_+_, _≤_, _<_};
 ghost use lib.ListN.{length};
-ghost use Rattle.commands.specs.Lines.{digitOf, decimal, signed, hexDigit, hex, Wrote};
+ghost use Rattle.commands.specs.{Lines.digitOf, Lines.decimal, Lines.signed, Lines.hexDigit, Lines.hex, Texts.Wrote};
 
 pub(crate) fn put(out: &mut [u8], at: usize, b: u8) -> usize
     requires { ⌜ at < length (now out) ⌝ }

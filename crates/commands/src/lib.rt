@@ -1,17 +1,20 @@
-// Commands of the shaping buffer: the reader of bytes, the step and the run, and the printed lines. The account of calls,
+// Commands of the shaping buffer: the reader of bytes, the step and the run, and the printed lines and texts. The account of calls,
 // lists of calls and bytes stands in specs/, with what demand 3 says of them.
 use lists::Reply;
 
-pub mod calls;
-pub mod counting;
-pub mod digits;
+mod calls;
+mod columns;
+mod counting;
+mod digits;
 pub mod lines;
-pub mod reader;
+pub mod playing;
+mod reader;
 pub mod reports;
 pub mod runs;
 pub mod scripts;
 pub mod steps;
-pub mod words;
+pub mod texts;
+mod words;
 
 // A command as it was read: its byte, its first five operands (0 where it has fewer), where glyph numbers of its own
 // start, and where the next command does.
@@ -60,6 +63,15 @@ pub struct Step {
 // What a run gives back: the last command's reply, and how many commands there were.
 pub struct Ran {
     pub reply: Reply,
+    pub commands: usize,
+}
+
+// What playing a part of a string gives back: the last command's reply, where the next command starts, how many bytes of
+// lines were written, and how many commands there were.
+pub struct Played {
+    pub reply: Reply,
+    pub next: usize,
+    pub written: usize,
     pub commands: usize,
 }
 

@@ -7,14 +7,14 @@ ghost use lib.Dec.{leb};
 ghost use Rattle.records.specs.Answers.{said};
 ghost use Rattle.records.specs.View.{seen};
 ghost use Rattle.lists.specs.Account.{spoiledPhase};
-ghost use Rattle.commands.specs.Lines.{answerLine, endLineOf, glyphLine, positionLine, sumLine, Wrote, Prints, longest};
+ghost use Rattle.commands.specs.{Lines.answerLine, inner.Writes.endLineOf, Lines.glyphLine, Lines.positionLine, Lines.sumLine, Texts.Wrote, Texts.Prints, Texts.longest};
 use super::Totals;
 use super::digits;
 use super::words;
 use lists::Buffer;
 use lists::state;
 use records::Answer;
-use records::Glyph;
+use records::GlyphInfo;
 use records::Position;
 
 // The command, ` ok` or ` no`, and a number if any.
@@ -42,7 +42,7 @@ fn put_answer(out: &mut [u8], at: usize, byte: u8, answer: Answer) -> usize
     }
 }
 
-fn put_glyph(out: &mut [u8], at: usize, kind: u8, g: Glyph) -> usize
+fn put_glyph(out: &mut [u8], at: usize, kind: u8, g: GlyphInfo) -> usize
     requires { ⌜ at + longest ≤ length (now out) ⌝ }
     ensures { λ r. ⌜ Wrote (glyphLine kind (seen g)) (now (out .entry)) at r (now (out .exit)) ⌝ }
     ensures { λ r. ⌜ r ≤ at + longest ⌝ }
@@ -108,7 +108,7 @@ fn put_totals(out: &mut [u8], at: usize, t: Totals) -> usize
 }
 
 // Whether the longest line, of 81 bytes, has room from a place on.
-fn has_room(len: usize, at: usize) -> bool
+pub(crate) fn has_room(len: usize, at: usize) -> bool
     ensures { λ r. ⌜ r ≡ leb (at + longest) len ⌝ }
 {
     if len < at {
@@ -128,7 +128,7 @@ pub fn answer_line(out: &mut [u8], at: usize, byte: u8, answer: Answer) -> usize
 }
 
 // The line `end`.
-pub fn end_line(out: &mut [u8], at: usize, b: Buffer) -> usize
+pub(crate) fn end_line(out: &mut [u8], at: usize, b: Buffer) -> usize
     ensures { λ r. ⌜ Prints (endLineOf b) (now (out .entry)) at r (now (out .exit)) ⌝ }
 {
     if has_room(out.len(), at) {
@@ -138,7 +138,7 @@ pub fn end_line(out: &mut [u8], at: usize, b: Buffer) -> usize
 }
 
 // A line `o`, `p` or `i`, as its kind says.
-pub fn glyph_line(out: &mut [u8], at: usize, kind: u8, g: Glyph) -> usize
+pub(crate) fn glyph_line(out: &mut [u8], at: usize, kind: u8, g: GlyphInfo) -> usize
     ensures { λ r. ⌜ Prints (glyphLine kind (seen g)) (now (out .entry)) at r (now (out .exit)) ⌝ }
 {
     if has_room(out.len(), at) {
@@ -148,7 +148,7 @@ pub fn glyph_line(out: &mut [u8], at: usize, kind: u8, g: Glyph) -> usize
 }
 
 // A line `x`.
-pub fn position_line(out: &mut [u8], at: usize, p: Position) -> usize
+pub(crate) fn position_line(out: &mut [u8], at: usize, p: Position) -> usize
     ensures { λ r. ⌜ Prints (positionLine p) (now (out .entry)) at r (now (out .exit)) ⌝ }
 {
     if has_room(out.len(), at) {
@@ -158,7 +158,7 @@ pub fn position_line(out: &mut [u8], at: usize, p: Position) -> usize
 }
 
 // The line `sum`.
-pub fn sum_line(out: &mut [u8], at: usize, t: Totals) -> usize
+pub(crate) fn sum_line(out: &mut [u8], at: usize, t: Totals) -> usize
     ensures { λ r. ⌜ Prints (sumLine t) (now (out .entry)) at r (now (out .exit)) ⌝ }
 {
     if has_room(out.len(), at) {

@@ -2,7 +2,7 @@
 ghost use mathlib.Core.Path.{_≡_};
 ghost use Prim.Native.Nat.{_+_, _*_, _<_, _≤_};
 ghost use lib.ListN.{length};
-ghost use Rattle.commands.specs.Reading.{formOf, operandsOf, count, operandAt, orderAt, ReadsForm, Reads};
+ghost use Rattle.commands.specs.{Calls.formOf, Reading.operandsOf, Reading.count, inner.Orders.operandAt, inner.Orders.orderAt, inner.Orders.ReadsForm, Reading.Reads};
 ghost use Rattle.commands.specs.declared.Operands.the-variants.{Words, Listed};
 use super::Operands;
 use super::Order;
@@ -123,7 +123,7 @@ fn read_listed(script: &[u8], byte: u8, from: usize) -> Reading
 }
 
 // The command at a place; past the end there is none.
-pub fn read_command(script: &[u8], at: usize) -> Reading
+pub(crate) fn read_command(script: &[u8], at: usize) -> Reading
     ensures { λ r. ⌜ Reads (now (script .entry)) at r ⌝ }
 {
     if script.len() <= at {

@@ -1,7 +1,7 @@
 // What is printed at the end of a run, line by line.
 ghost use mathlib.Core.Path.{_≡_};
 ghost use lib.ListN.{length};
-ghost use Rattle.commands.specs.Lines.{Prints, itemLine, reported, lineOf};
+ghost use Rattle.commands.specs.{Texts.Prints, Lines.itemLine, Lines.reported, Lines.lineOf};
 use super::counting;
 use super::lines;
 use lists::Buffer;
@@ -15,7 +15,7 @@ fn item_line(out: &mut [u8], at: usize, item: Item) -> usize
         Item::OfDone(g) => lines::glyph_line(out, at, b'o', g),
         Item::OfPassed(g) => lines::glyph_line(out, at, b'p', g),
         Item::OfRest(g) => lines::glyph_line(out, at, b'i', g),
-        Item::Placed(p) => lines::position_line(out, at, p),
+        Item::OfPosition(p) => lines::position_line(out, at, p),
         Item::Nothing => at,
     }
 }

@@ -1,5 +1,5 @@
 // The step: one command of a byte string on state and slices.
-ghost use Rattle.commands.specs.Steps.{Steps};
+ghost use Rattle.commands.specs.Runs.{Steps};
 use super::Reading;
 use super::Step;
 use super::calls;

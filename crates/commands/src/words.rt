@@ -3,7 +3,7 @@ ghost use mathlib.Core.Bool.{cond};
 ghost use mathlib.Core.List.{[], _∷_};
 ghost use Prim.Native.Nat.{_+_, _≤_};
 ghost use lib.ListN.{length};
-ghost use Rattle.commands.specs.Lines.{decimal, signed, Wrote};
+ghost use Rattle.commands.specs.{Lines.decimal, Lines.signed, Texts.Wrote};
 use super::digits;
 
 pub(crate) fn put_count(out: &mut [u8], at: usize, n: usize) -> usize

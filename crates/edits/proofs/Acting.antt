@@ -1,28 +1,13 @@
 -- Copies of one glyph under numbers, and how the loop that puts them goes on by one.
-use mathlib.Core.{Path._≡_, Path.refl, Path.sym, Path.ap, Path._∙_, List.List, List.[], List._∷_}
-use Prim.Native.Nat.{ℕ, zero, suc, _+_, _≤_, _<_}
-use native.Mathlib.Nat.{le-of-suc-le-suc, not-suc-le-zero}
+use mathlib.Core.{Path._≡_, Path.refl, Path.sym, Path.ap, Path._∙_, List.List}
+use Prim.Native.Nat.{ℕ, _+_, _≤_, _<_}
 use native.Mathlib.Omega.{arith}
-use lib.ListN.{length, take, getD, set, length-map}
-use Rattle.records.specs.{Glyphs.Glyph, Glyphs.Info, Ranges.copies, View.glyphs, View.zeroGlyph}
-use Rattle.records.proofs.{View.glyphs-same, Renaming.take-map}
-use Rattle.lists.specs.Copied.{copied}
+use lib.ListN.{length, getD, set}
+use Rattle.records.specs.{Glyphs.Glyph, Glyphs.Info, Ranges.copies, View.glyphs, inner.Stores.zeroGlyph}
+use Rattle.records.proofs.{View.glyphs-same}
+use Rattle.records.proofs.Edited.{length-copies, copies-at}
+use Rattle.lists.specs.inner.Copied.{copied}
 use Rattle.lists.proofs.Copying.{copied-none, copied-more}
-
--- ---- copies of one glyph
-pub length-copies : (i : Info) (gs : List ℕ) → length (copies i gs) ≡ length gs
-unfolding copies
-length-copies i gs = length-map gs (λ g. record { glyph = g; info = i })
-
-pub take-copies : (i : Info) (n : ℕ) (gs : List ℕ) → take n (copies i gs) ≡ copies i (take n gs)
-unfolding copies
-take-copies i n gs = take-map (λ g. record { glyph = g; info = i }) n gs
-
-pub copies-at : (i : Info) (gs : List ℕ) (k : ℕ) → k < length gs → getD (copies i gs) k zeroGlyph ≡ record { glyph = getD gs k 0; info = i }
-unfolding copies
-copies-at i [] k h = absurd (not-suc-le-zero h)
-copies-at i (x ∷ gs) zero h = refl
-copies-at i (x ∷ gs) (suc k) h = copies-at i gs k (le-of-suc-le-suc h)
 
 -- the first i of n copies are put
 pub record Putting (ws₀ : List ℕ) (at : ℕ) (w : Info) (gs : List ℕ) (n : ℕ) (ws : List ℕ) (i : ℕ) : Type 0 where

@@ -4,11 +4,12 @@ use Prim.Native.Nat.{ℕ, _-_, _≤_}
 use native.Mathlib.Omega.{arith}
 use lib.ListN.{take, drop, length}
 use lib.Seq.{slice, take-take, drop-drop, length-slice}
-use Rattle.records.specs.{Limits, Glyphs.Glyph, Glyphs.Info, Ranges.edit, Ranges.clusters}
-use Rattle.lists.specs.Account.{State, input, withInput, withDone, withLimits, limiting}
-use Rattle.edits.specs.Holding.{holds, cut}
+use Rattle.records.specs.{Glyphs.Glyph, Glyphs.Info, Ranges.edit, Ranges.clusters}
+use Rattle.records.proofs.Edited.{clusters-take, clusters-drop, edit-take, edit-drop, edit-drop-behind}
+use Rattle.lists.specs.Account.{State, input, withInput, withDone, limiting, paying}
+use Rattle.edits.specs.inner.Holding.{holds, paid, cut}
 use Rattle.lists.proofs.Copying.{drop-take}
-use Rattle.edits.proofs.Holding.{slice-join, clusters-take, clusters-drop, there-and-back, same-account, edit-take, edit-drop, edit-drop-behind}
+use Rattle.edits.proofs.Holding.{slice-join, there-and-back, same-account}
 
 -- the input of the account held, and its clusters
 module _ (run out : List (Glyph ℕ)) (gone idx len outLen : ℕ) (k : State) (cursor : gone ≤ idx) (inside : idx ≤ len) (fits : len ≤ length run) where
@@ -46,13 +47,13 @@ module _ (run out : List (Glyph ℕ)) (gone idx len outLen : ℕ) (k : State) (c
   holds-input run′ out′ L el ed = holds-with run′ out′ (take outLen out) L el ed ∙ keeps-done L
 
   -- other limits, and nothing else
-  held-limits : (h : Limits → Limits) (r o : List (Glyph ℕ)) → holds r o gone idx len outLen (withLimits (h (k .limits)) k) ≡ limiting h (holds r o gone idx len outLen k)
-  unfolding holds limiting
-  held-limits h r o = refl
+  held-paid : (n : ℕ) (r o : List (Glyph ℕ)) → holds r o gone idx len outLen (paid n k) ≡ paying n (holds r o gone idx len outLen k)
+  unfolding holds paying limiting
+  held-paid n r o = refl
 
-  pub holds-limiting : (h : Limits → Limits) (run′ out′ D L : List (Glyph ℕ)) → slice gone len run′ ≡ L → take outLen out′ ≡ D
-      → holds run′ out′ gone idx len outLen (withLimits (h (k .limits)) k) ≡ limiting h (withDone D (withInput L (holds run out gone idx len outLen k)))
-  holds-limiting h run′ out′ D L el ed = held-limits h run′ out′ ∙ ap (limiting h) (holds-with run′ out′ D L el ed)
+  pub holds-paying : (n : ℕ) (run′ out′ D L : List (Glyph ℕ)) → slice gone len run′ ≡ L → take outLen out′ ≡ D
+      → holds run′ out′ gone idx len outLen (paid n k) ≡ paying n (withDone D (withInput L (holds run out gone idx len outLen k)))
+  holds-paying n run′ out′ D L el ed = held-paid n run′ out′ ∙ ap (paying n) (holds-with run′ out′ D L el ed)
 
 -- an edit within the input, seen from the input
 pub input-edit : (h : Info → Info) (gone len i j : ℕ) (run : List (Glyph ℕ)) → gone ≤ i → i ≤ j → j ≤ len

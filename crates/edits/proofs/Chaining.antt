@@ -5,10 +5,10 @@ use native.Mathlib.Omega.{arith}
 use lib.{ListN.length}
 use Rattle.records.specs.{View.glyphs, View.wordsFrom}
 use Rattle.records.proofs.View.{glyphs-same}
-use Rattle.lists.specs.declared.{Buffer.Buffer}
-use Rattle.lists.specs.{Account.Account, State.accountOf}
+use Rattle.lists.specs.declared.Buffer.{Buffer}
+use Rattle.lists.specs.{Account.Account, Contract.accountOf}
 use Rattle.lists.proofs.{SoundLaws.held-lengths}
-use Rattle.edits.specs.{Acts.Acts}
+use Rattle.edits.specs.{inner.Acts.Acts}
 
 -- a place in a slice whose length was kept
 pub stays-inside : {i n : ℕ} (run run₁ : List ℕ) → length run₁ ≡ length run → n ≤ length (glyphs run) → i < n → i < length (glyphs run₁)

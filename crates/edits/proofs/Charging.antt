@@ -4,13 +4,13 @@ use Prim.Native.Nat.{ℕ, _≤_, _<_}
 use borrow.Author.Tests.{lt-ltb, le-ltb}
 use lib.{Dec.ltb, ListN.length}
 use Rattle.records.specs.{Refusal, Contradiction, WrongPhase, BadOperand, Answer, Done, No, Limits}
-use Rattle.lists.specs.declared.{Buffer.Buffer, Reply.Reply, Verdict.Verdict}
-use Rattle.lists.specs.{Account.Account, Contract.Meets, Results.Result, Results.refused, State.sound, States.reply, States.withLimitsOf, Verdicts.leaving, Verdicts.Leaves, Verdicts.settledBuffer, Verdicts.settled, Verdicts.Sided}
+use Rattle.lists.proofs.Changed.{other-limits, limits-is}
+use Rattle.lists.specs.{declared.Buffer.Buffer, declared.Reply.Reply, declared.Verdict.Verdict}
+use Rattle.lists.specs.{Account.Account, Contract.Meets, Account.Result, Account.refused, Contract.sound, inner.States.reply, inner.States.withLimitsOf, inner.Verdicts.leaving, inner.Verdicts.Leaves, inner.Verdicts.settled, inner.Verdicts.Sided}
 use Rattle.lists.proofs.Sides.{MeetsIn}
-use Rattle.lists.specs.States.{atPlaces}
-use Rattle.lists.proofs.Decisions.{Lying, Refuses, acts-is, leaves-is, settles-unsound, settles-refused, meets-sided}
+use Rattle.lists.proofs.Decisions.{Lying, Refuses, near-limits, settled-is, acts-is, leaves-is, settles-unsound, settles-refused, meets-sided}
 use Rattle.lists.proofs.SoundLaws.{soundness}
-use Rattle.edits.specs.{Acts.Acts, WholeRun.notWhole, Wholes.WholeInput, Wholes.RunRoom, Wholes.RunOf, Charges.leftWith, Charges.DecidedBy, Charges.running, Charges.Charges, Charges.keyedVerdict, Charges.TakesKeyed}
+use Rattle.edits.specs.{inner.Acts.Acts, WholeRun.notWhole, inner.Wholes.WholeInput, inner.Wholes.RunRoom, inner.Wholes.RunOf, inner.Charges.leftWith, inner.Charges.DecidedBy, inner.Charges.running, inner.Charges.Charges, inner.Charges.keyedVerdict, inner.Charges.TakesKeyed}
 use Rattle.edits.proofs.WholeInputs.{wholeTest, not-not-whole, whole-lengths}
 use Rattle.edits.proofs.WholeCalls.{OnWhole, whole-refuses, lying-whole, sound-whole, whole-room, whole-run}
 
@@ -22,12 +22,15 @@ module _ (b : Buffer) where
   pub running-is : {run other : List ℕ} → WholeInput b run other → running (b .level) (b .len .0) (b .limits) b ≡ b
   running-is w = ap₂ at (sym (w .start)) (sym (w .held .none (w .plain)))
 
+-- it is one under any limits
+pub limits-running : (level n : ℕ) (l l′ : Limits) (b : Buffer) → withLimitsOf l′ (running level n l b) ≡ running level n l′ b
+limits-running level n l l′ b = limits-is l′ (running level n l b)
+
 pub charges-acts : {Asked : Buffer → (run other : List ℕ) → Type 0} {h : Account ℕ → Account ℕ} {b : Buffer} {l : Limits} {run other run′ other′ : List ℕ} → WholeInput b run other → Asked b run other
     → Charges Asked h (b .level) (b .len .0) (b .limits) l run other run′ other′ → Acts h b run other (withLimitsOf l b) run′ other′
-unfolding withLimitsOf
 charges-acts {Asked} {h} {b} {l} {run} {other} {run′} {other′} w a u =
     subst (λ (x : Buffer). Acts h x run other (withLimitsOf l x) run′ other′) (running-is b w)
-    (u .acts b (subst (λ (x : Buffer). Asked x run other) (sym (running-is b w)) a))
+    (rw (limits-running (b .level) (b .len .0) (b .limits) l b) (u .acts b (subst (λ (x : Buffer). Asked x run other) (sym (running-is b w)) a)))
 
 -- after a step that leaves the run where it is
 pub whole-after : {level n : ℕ} {l l′ : Limits} (b : Buffer) {h : Account ℕ → Account ℕ} {run other run′ other′ : List ℕ} → WholeInput (running level n l b) run other → Acts h (running level n l b) run other (running level n l′ b) run′ other′
@@ -35,8 +38,7 @@ pub whole-after : {level n : ℕ} {l l′ : Limits} (b : Buffer) {h : Account �
 whole-after b w u lr lo = whole-lengths lr lo (record { held = u .held; plain = w .plain; clean = w .clean; start = refl })
 
 pub settles-left : (b : Buffer) (l : Limits) → settled b (leftWith l (leaving b true Done)) ≡ reply (withLimitsOf l b) Done
-unfolding settled settledBuffer withLimitsOf atPlaces
-settles-left b l = refl
+settles-left b l = settled-is {acts = true} (near-limits b l) (record { is = simp other-limits })
 
 -- ---- no act
 module _ {R : Type 0} {amend : R → Verdict → Verdict} {call : ℕ → Account ℕ → Result ℕ} {b : Buffer} {f s : List ℕ} {v : Verdict} {Ask : Type 0} {Act : R → (run other run′ other′ : List ℕ) → Type 0} where

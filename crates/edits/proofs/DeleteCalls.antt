@@ -3,17 +3,19 @@ use mathlib.Core.{Path._≡_, Path.refl, Path.sym, Path.ap, Path._∙_, Bool.Boo
 use Prim.Native.Nat.{ℕ, _+_, _-_, _≤_, _<_}
 use native.Mathlib.Omega.{arith}
 use lib.{Dec.eqb, Dec.ltb, ListN.length, ListN.take, ListN.getD}
-use Rattle.records.specs.{Contradiction, WrongPhase, OutOfRange, Done, No, Limits, Glyphs.setCluster, Ranges.clusters, Ranges.edit, Ranges.tails, Ranges.is, View.glyphs, View.seen, View.zeroGlyph}
-use Rattle.records.specs.declared.{Glyph.Glyph as Words}
+use Rattle.records.specs.{Contradiction, WrongPhase, OutOfRange, Done, No, Limits, Glyphs.setCluster, Ranges.clusters, Ranges.edit, Ranges.tails, Ranges.is, View.glyphs, View.seen, inner.Stores.zeroGlyph}
+use Rattle.records.specs.declared.GlyphInfo.{GlyphInfo}
 use Rattle.records.proofs.View.{glyphs-same}
-use Rattle.lists.specs.declared.{Buffer.Buffer, Verdict.Verdict}
-use Rattle.lists.specs.{Account.Account, Account.readLevel, Account.outputPhase, Account.hasOutput, Cursor.dropping, Results.refused, Results.accepted, Results.refuse_when_else_, State.accountOf, State.goneOf, State.sound, States.reply, States.atPlaces, States.withLimitsOf, Verdicts.leaving, Verdicts.Leaves, Verdicts.settledBuffer, Verdicts.settled, Verdicts.Sided}
+use Rattle.lists.specs.{declared.Buffer.Buffer, declared.Verdict.Verdict}
+use Rattle.lists.specs.{Account.Account, Account.readLevel, Account.outputPhase, Account.hasOutput, Cursor.dropping, Account.refused, Account.accepted, Contract.accountOf, Contract.goneOf, Contract.sound, inner.States.reply, inner.States.atPlaces, inner.States.withLimitsOf, inner.Verdicts.Leaves, inner.Verdicts.settled, inner.Verdicts.Sided}
 use Rattle.lists.proofs.{Accounts.output-of, SoundLaws.sound-held}
-use Rattle.lists.proofs.Decisions.{acts-is, settles-refused, meets-sided}
+use Rattle.lists.proofs.Decisions.{near-placed, settled-is, acts-is, settles-refused, meets-sided}
 use Rattle.lists.proofs.SoundLaws.{soundness}
+use Rattle.lists.proofs.Refusing.{refusing}
 use Rattle.records.proofs.Tests.{tested}
-use Rattle.edits.specs.{Acts.Acts, Charges.leftWith, Charges.DecidedBy, Deleting.deleted, Deleting.deleteGlyph, Merging.merge, Merging.clustersMerge, MergeActs.mergeLimits, MergeActs.Merges}
-use Rattle.edits.specs.Deletes.{Deletable, laid, DeleteRoom, NextFound, LastFound, Surviving, SurvivingBy, Inherits, Deletes, mergedWith}
+use Rattle.lists.proofs.Changed.{own-limits, other-limits, other-places}
+use Rattle.edits.specs.{inner.Acts.Acts, inner.Charges.leftWith, inner.Charges.DecidedBy, Deleting.deleted, Deleting.deleteGlyph, Merging.merge, Merging.clustersMerge, inner.MergeActs.mergeLimits, inner.MergeActs.Merges}
+use Rattle.edits.specs.inner.Deletes.{Deletable, laid, DeleteRoom, NextFound, LastFound, Surviving, SurvivingBy, Inherits, Deletes, mergedWith}
 use Rattle.edits.proofs.Writings.{rest-short, rest-long}
 use Rattle.edits.proofs.{Charging.by-none, Charging.by-unsound, MergeCalls.in-acts}
 use Rattle.edits.proofs.Deletions.{next-is, next-none, last-is, last-none, survives-next, survives-last, deletes-survived, deletes-inherited, deletes-alone, deletes, stays, next-mergeful, merge-deletes, inherit-none, inherit-apart, inherit-within}
@@ -27,7 +29,7 @@ module _ {idx len : ℕ} {run : List ℕ} where
   next-lacks h = record { is = λ b other v. next-none v h }
 
 module _ {separate : Bool} {idx outLen : ℕ} {run other : List ℕ} where
-  pub last-found : {c : ℕ} (d : Words) → 0 < outLen → c ≡ getD (clusters (glyphs run)) idx 4294967295 → seen d ≡ getD (cond separate (glyphs other) (glyphs run)) (outLen - 1) zeroGlyph → LastFound separate idx outLen run other (eqb (d .cluster) c)
+  pub last-found : {c : ℕ} (d : GlyphInfo) → 0 < outLen → c ≡ getD (clusters (glyphs run)) idx 4294967295 → seen d ≡ getD (cond separate (glyphs other) (glyphs run)) (outLen - 1) zeroGlyph → LastFound separate idx outLen run other (eqb (d .cluster) c)
   last-found d h ec ed = record { is = λ b v. last-is v d h ec ed }
 
   pub last-lacks : outLen ≤ 0 → LastFound separate idx outLen run other false
@@ -41,7 +43,7 @@ module _ {separate t : Bool} {idx len outLen : ℕ} {run other : List ℕ} (w : 
   surviving-last h x = record { is = λ b v. survives-last v (sym (w .is (laid separate (b .level) idx len outLen b) other v) ∙ h) (x .is (laid separate (b .level) idx len outLen b) v) }
 
 -- ---- the cluster goes to the tail of the output
-module _ {separate : Bool} {idx outLen : ℕ} {run other : List ℕ} (g d : Words) (some-out : 0 < outLen) (eg : seen g ≡ getD (glyphs run) idx zeroGlyph) (ed : seen d ≡ getD (cond separate (glyphs other) (glyphs run)) (outLen - 1) zeroGlyph) where
+module _ {separate : Bool} {idx outLen : ℕ} {run other : List ℕ} (g d : GlyphInfo) (some-out : 0 < outLen) (eg : seen g ≡ getD (glyphs run) idx zeroGlyph) (ed : seen d ≡ getD (cond separate (glyphs other) (glyphs run)) (outLen - 1) zeroGlyph) where
   pub inherits-none : d .cluster ≤ g .cluster → Inherits separate idx outLen run other run other
   inherits-none h = record { acts = λ b v. inherit-none v some-out g d eg ed h; own = λ z. refl }
 
@@ -57,8 +59,8 @@ module _ {separate t : Bool} {level idx len outLen : ℕ} {run other : List ℕ}
   -- without a cost
   free : {x : Account ℕ → Account ℕ} {run′ other′ : List ℕ} (b : Buffer) → let y = laid separate level idx len outLen b in Deletable y run other → Acts x y run other y run′ other′ → length run′ ≡ length run → length other′ ≡ length other
       → deleted (accountOf y run other) ≡ dropping 1 (x (accountOf y run other)) → Acts (λ a. deleted a) y run other (atPlaces (idx + 1) len outLen (withLimitsOf (mergeLimits false 2 (b .limits)) y)) run′ other′
-  unfolding mergeLimits withLimitsOf
-  free b v u lr lo e = deletes v (b .limits) u lr lo e
+  unfolding mergeLimits
+  free {x} b v u lr lo e = deletes v {x = x} (b .limits) (rw (own-limits (laid separate level idx len outLen b)) u) lr lo e
 
   deletes-kept : t ≡ true → Deletes separate level idx len outLen false run other run other
   deletes-kept h = record { acts = λ b v. free b v (stays v) refl refl (deletes-survived v (sym (w .is (laid separate level idx len outLen b) v) ∙ h)); own = λ z. refl }
@@ -110,20 +112,19 @@ delete-room {b} {run} {other} v = record { some = v .some; fits = omega (arith, 
 -- ---- 0F
 module _ (a : Account ℕ) where
   delete-none : hasOutput a ≡ false → deleteGlyph a ≡ refused WrongPhase
-  unfolding deleteGlyph refuse_when_else_
-  delete-none h = rw h
+  unfolding deleteGlyph
+  delete-none h = simp (h, refusing)
 
   delete-outside : hasOutput a ≡ true → ltb (length (a .rest)) 1 ≡ true → deleteGlyph a ≡ refused OutOfRange
-  unfolding deleteGlyph refuse_when_else_
-  delete-outside h k = rw (h, k)
+  unfolding deleteGlyph
+  delete-outside h k = simp (h, k, refusing)
 
   delete-accepts : hasOutput a ≡ true → ltb (length (a .rest)) 1 ≡ false → deleteGlyph a ≡ accepted (deleted a)
-  unfolding deleteGlyph refuse_when_else_
-  delete-accepts h k = rw (h, k)
+  unfolding deleteGlyph
+  delete-accepts h k = simp (h, k, refusing)
 
 due-is : (b : Buffer) {b′ : Buffer} {v : Verdict} (merged : Bool) → b′ ≡ atPlaces (b .idx .0 + 1) (b .len .0) (b .«out_len» .0) b → Leaves b′ true Done v → settled b (mergedWith merged v) ≡ reply (atPlaces (b .idx .0 + 1) (b .len .0) (b .«out_len» .0) (withLimitsOf (mergeLimits merged 2 (b .limits)) b)) Done
-unfolding settled settledBuffer atPlaces withLimitsOf
-due-is b merged eb w = ap (λ (x : Verdict). settled b (mergedWith merged x)) (w .is ∙ ap (λ (x : Buffer). leaving x true Done) eb)
+due-is b merged eb w = settled-is {acts = true} (near-placed b _ _ _ _) (record { is = rw (w .is, eb) (simp (other-limits, other-places)) })
 
 abbrev DeleteDecided : Buffer → (f s : List ℕ) → Verdict → Type 0
 DeleteDecided b f s v = DecidedBy Bool mergedWith (λ capacity a. deleteGlyph a) b f s v (DeleteRoom (b .idx .0) (b .len .0) (b .«out_len» .0) f s) (Deletes (b .«have_separate_output») (b .level) (b .idx .0) (b .len .0) (b .«out_len» .0))

@@ -4,15 +4,17 @@ use Prim.Native.Nat.{ℕ, suc, _+_, _-_, _≤_, _<_}
 use native.Mathlib.Omega.{arith}
 use borrow.Author.Tests.{le-ltb, lt-ltb}
 use lib.{Dec.eqb, Dec.ltb, ListN.length, ListN.take, ListN.drop, ListN.getD, Seq.slice, Seq.slice-cons}
-use Rattle.records.specs.{Limits, Glyphs.Glyph, Glyphs.Info, Glyphs.blank, Glyphs.setCluster, Ranges.clusters, Ranges.edit, Ranges.tails, Ranges.infos, Ranges.is, Ranges.first, Ranges.last, View.glyphs, View.seen, View.zeroGlyph}
-use Rattle.records.specs.declared.{Glyph.Glyph as Words}
+use Rattle.records.specs.{Limits, Glyphs.Glyph, Glyphs.Info, Glyphs.blank, Glyphs.setCluster, Ranges.clusters, Ranges.edit, Ranges.tails, Ranges.infos, Ranges.is, Ranges.firstCluster, Ranges.lastCluster, View.glyphs, View.seen, inner.Stores.zeroGlyph}
+use Rattle.records.specs.declared.GlyphInfo.{GlyphInfo}
 use Rattle.records.proofs.{View.length-clusters, View.whole-same, View.cluster-of, View.seen-mask, View.seen-cluster, Renaming.append-map}
-use Rattle.lists.specs.declared.{Buffer.Buffer}
-use Rattle.lists.specs.{Account.readLevel, Account.Account, Account.outLen, Account.withDone, Cursor.dropping, State.accountOf, State.goneOf, State.Held, States.atPlaces, States.withLimitsOf}
+use Rattle.lists.proofs.Changed.{limits-limits, other-limits, other-places, held-placed}
+use Rattle.lists.proofs.Showing.{done-list}
+use Rattle.records.proofs.Edited.{edit-take, edit-drop-behind, clusters-take}
+use Rattle.lists.specs.declared.Buffer.{Buffer}
+use Rattle.lists.specs.{Account.readLevel, Account.Account, Account.outLen, Account.withDone, Cursor.dropping, Contract.accountOf, Contract.goneOf, inner.Held.Held, inner.States.atPlaces, inner.States.withLimitsOf}
 use Rattle.lists.proofs.{Accounts.output-clean, Accounts.out-of, Accounts.rest-of, SoundLaws.held-lengths, Copying.range-same, Simple.dropping-of}
-use Rattle.edits.specs.{Acts.Acts, Acts.Mergeful, Deletes.Deletable, Deletes.nextHas, Deletes.lastHas, Deletes.inheriting, Deleting.current, Deleting.inherited, Deleting.survives, Deleting.deleted, Deleting.mergedForward, Merging.merge, Merging.clustersMerge}
+use Rattle.edits.specs.{inner.Acts.Acts, inner.Acts.Mergeful, inner.Deletes.Deletable, inner.Deletes.nextHas, inner.Deletes.lastHas, inner.Deletes.inheriting, Deleting.current, Deleting.inherited, Deleting.survives, Deleting.deleted, Deleting.mergedForward, Merging.merge, Merging.clustersMerge}
 use Rattle.lists.proofs.Outputs.{output-cong, gone-output, output-account, beyond}
-use Rattle.edits.proofs.Holding.{edit-take, edit-drop-behind, clusters-take}
 use Rattle.edits.proofs.Writings.{rest-first, done-last}
 use Rattle.edits.proofs.Replacements.{merge-places}
 
@@ -41,11 +43,11 @@ module _ {b : Buffer} {run other : List ℕ} (v : Deletable b run other) where
   done-many = length-clusters (here .done) ∙ out-of b run other (v .held)
 
   next-yes : 1 < b .len .0 - b .idx .0 → nextHas here ≡ eqb ((getD (glyphs run) (suc (b .idx .0)) zeroGlyph) .info .cluster) (at-cursor .info .cluster)
-  unfolding nextHas first clusters
+  unfolding nextHas firstCluster clusters
   next-yes h =
       let t : ltb 1 (length (clusters (here .rest))) ≡ true = lt-ltb 1 (length (clusters (here .rest))) (omega (arith, many)) in
-      ap (λ (x : Bool). x && is (first (clusters (here .rest))) (getD (clusters (here .rest)) 1 0)) t
-      ∙ ap (λ (r : List (Glyph ℕ)). is (first (clusters r)) (getD (clusters r) 1 0)) (rest-two h)
+      ap (λ (x : Bool). x && is (firstCluster (clusters (here .rest))) (getD (clusters (here .rest)) 1 0)) t
+      ∙ ap (λ (r : List (Glyph ℕ)). is (firstCluster (clusters r)) (getD (clusters r) 1 0)) (rest-two h)
 
   pub next-is : {c d : ℕ} → 1 < b .len .0 - b .idx .0 → c ≡ getD (clusters (glyphs run)) (b .idx .0) 4294967295 → d ≡ getD (clusters (glyphs run)) (b .idx .0 + 1) 4294967295 → eqb d c ≡ nextHas here
   next-is {c} {d} h ec ed =
@@ -58,33 +60,33 @@ module _ {b : Buffer} {run other : List ℕ} (v : Deletable b run other) where
   unfolding nextHas
   next-none h =
       let t : ltb 1 (length (clusters (here .rest))) ≡ false = le-ltb 1 (length (clusters (here .rest))) (omega (arith, many)) in
-      sym (ap (λ (x : Bool). x && is (first (clusters (here .rest))) (getD (clusters (here .rest)) 1 0)) t)
+      sym (ap (λ (x : Bool). x && is (firstCluster (clusters (here .rest))) (getD (clusters (here .rest)) 1 0)) t)
 
-  first-of : first (clusters (here .rest)) ≡ at-cursor .info .cluster
-  unfolding first clusters
-  first-of = ap (λ (r : List (Glyph ℕ)). first (clusters r)) rest-one
+  first-of : firstCluster (clusters (here .rest)) ≡ at-cursor .info .cluster
+  unfolding firstCluster clusters
+  first-of = ap (λ (r : List (Glyph ℕ)). firstCluster (clusters r)) rest-one
 
-  last-of : 0 < b .«out_len» .0 → last (clusters (here .done)) ≡ at-end .info .cluster
-  unfolding last clusters
+  last-of : 0 < b .«out_len» .0 → lastCluster (clusters (here .done)) ≡ at-end .info .cluster
+  unfolding lastCluster clusters
   last-of h =
       let l : List (Glyph ℕ) = take (b .«out_len» .0 - 1) (cond (b .«have_separate_output») (glyphs other) (glyphs run)) in
-      ap (λ (r : List (Glyph ℕ)). last (clusters r)) (done-last (v .held) (v .output) h)
-      ∙ (ap (λ (r : List ℕ). last r) (sym (append-map (λ g. g .info .cluster) l (at-end ∷ [])))
+      ap (λ (r : List (Glyph ℕ)). lastCluster (clusters r)) (done-last (v .held) (v .output) h)
+      ∙ (ap (λ (r : List ℕ). lastCluster r) (sym (append-map (λ g. g .info .cluster) l (at-end ∷ [])))
       ∙ ap (λ (r : List ℕ). getD r 0 4294967295) (reverse-append (clusters l) (at-end .info .cluster ∷ [])))
 
-  pub last-is : {c : ℕ} (d : Words) → 0 < b .«out_len» .0 → c ≡ getD (clusters (glyphs run)) (b .idx .0) 4294967295 → seen d ≡ at-end → eqb (d .cluster) c ≡ lastHas here
+  pub last-is : {c : ℕ} (d : GlyphInfo) → 0 < b .«out_len» .0 → c ≡ getD (clusters (glyphs run)) (b .idx .0) 4294967295 → seen d ≡ at-end → eqb (d .cluster) c ≡ lastHas here
   unfolding lastHas
   last-is {c} d h ec ed =
       let t : ltb 0 (length (clusters (here .done))) ≡ true = lt-ltb 0 (length (clusters (here .done))) (omega (arith, done-many)) in
-      let f : c ≡ first (clusters (here .rest)) = ec ∙ (cluster-of (glyphs run) (b .idx .0) ∙ sym first-of) in
-      let e : d .cluster ≡ last (clusters (here .done)) = sym (seen-cluster d) ∙ (ap (λ (x : Glyph ℕ). x .info .cluster) ed ∙ sym (last-of h)) in
-      (λ k. eqb (e k) (f k)) ∙ sym (ap (λ (x : Bool). x && is (first (clusters (here .rest))) (last (clusters (here .done)))) t)
+      let f : c ≡ firstCluster (clusters (here .rest)) = ec ∙ (cluster-of (glyphs run) (b .idx .0) ∙ sym first-of) in
+      let e : d .cluster ≡ lastCluster (clusters (here .done)) = sym (seen-cluster d) ∙ (ap (λ (x : Glyph ℕ). x .info .cluster) ed ∙ sym (last-of h)) in
+      (λ k. eqb (e k) (f k)) ∙ sym (ap (λ (x : Bool). x && is (firstCluster (clusters (here .rest))) (lastCluster (clusters (here .done)))) t)
 
   pub last-none : b .«out_len» .0 ≤ 0 → false ≡ lastHas here
   unfolding lastHas
   last-none h =
       let t : ltb 0 (length (clusters (here .done))) ≡ false = le-ltb 0 (length (clusters (here .done))) (omega (arith, done-many)) in
-      sym (ap (λ (x : Bool). x && is (first (clusters (here .rest))) (last (clusters (here .done)))) t)
+      sym (ap (λ (x : Bool). x && is (firstCluster (clusters (here .rest))) (lastCluster (clusters (here .done)))) t)
 
   pub survives-next : nextHas here ≡ true → true ≡ survives (clusters (here .rest)) (clusters (here .done))
   unfolding survives nextHas lastHas
@@ -126,36 +128,22 @@ module _ {b : Buffer} {run other : List ℕ} (v : Deletable b run other) where
         forward k ∙ rw (t, p)
 
 -- ---- the drop
-dropped-held : {b : Buffer} {run other : List ℕ} → Deletable b run other → Held (atPlaces (b .idx .0 + 1) (b .len .0) (b .«out_len» .0) b) run other
-unfolding atPlaces
-dropped-held {b} v = record {
-  idx-in = omega (arith, v .some);
-  len-in = v .held .len-in;
-  out-in = v .held .out-in;
-  all-in = v .held .all-in;
-  most = v .held .most;
-  same = v .held .same;
-  whole = v .held .whole;
-  behind = λ p s. let k : b .«out_len» .0 ≤ b .idx .0 = v .held .behind p s in omega arith;
-  none = v .held .none;
-}
+dropped-held : {b : Buffer} {run other : List ℕ} → Deletable b run other → (l : Limits) → l .allocated ≡ b .limits .allocated → Held (atPlaces (b .idx .0 + 1) (b .len .0) (b .«out_len» .0) (withLimitsOf l b)) run other
+dropped-held {b} v l e =
+    let h = v .held in
+    held-placed h _ _ _ l (omega (arith, v .some)) (omega (arith, e)) (omega (arith, e)) (omega (arith, e)) (λ p s. let k : b .«out_len» .0 ≤ b .idx .0 = h .behind p s in omega arith) (h .none)
 
 -- x was done, at the cost of the limits l
 module _ {b : Buffer} {run other : List ℕ} (v : Deletable b run other) {x : Account ℕ → Account ℕ} (l : Limits) {run₁ other₁ : List ℕ}
     (u : Acts x b run other (withLimitsOf l b) run₁ other₁) (lr : length run₁ ≡ length run) (lo : length other₁ ≡ length other) where
-  still : Deletable (withLimitsOf l b) run other
-  unfolding withLimitsOf
-  still = record { held = u .held; output = v .output; some = v .some }
-
   pub deletes : deleted (accountOf b run other) ≡ dropping 1 (x (accountOf b run other)) → Acts (λ a. deleted a) b run other (atPlaces (b .idx .0 + 1) (b .len .0) (b .«out_len» .0) (withLimitsOf l b)) run₁ other₁
-  unfolding atPlaces withLimitsOf
   deletes e = record {
-    is = dropping-of (withLimitsOf l b) run₁ other₁ (held-lengths (withLimitsOf l b) run other run₁ other₁ lr lo (u .held)) (still .output) 1 ∙ (ap (dropping 1) (u .is) ∙ sym e);
-    size = u .size;
-    side = u .side;
+    is = simp other-limits at (dropping-of (withLimitsOf l b) run₁ other₁ (held-lengths (withLimitsOf l b) run other run₁ other₁ lr lo (u .held)) (simp other-limits (v .output)) 1) ∙ (ap (dropping 1) (u .is) ∙ sym e);
+    size = simp other-places (u .size);
+    side = simp other-places (u .side);
     run-beyond = u .run-beyond;
     other-beyond = u .other-beyond;
-    held = dropped-held still;
+    held = dropped-held v l (simp limits-limits at (u .size));
   }
 
 module _ {b : Buffer} {run other : List ℕ} (v : Deletable b run other) where
@@ -176,7 +164,7 @@ module _ {b : Buffer} {run other : List ℕ} (v : Deletable b run other) where
   merge-deletes h k l = deletes-merged v h k l ∙ ap (dropping 1) (sym (merge-places b run other (v .output) 2))
 
 -- ---- the cluster goes to the tail of the output
-module _ {b : Buffer} {run other : List ℕ} (v : Deletable b run other) (some-out : 0 < b .«out_len» .0) (g d : Words) (eg : seen g ≡ getD (glyphs run) (b .idx .0) zeroGlyph)
+module _ {b : Buffer} {run other : List ℕ} (v : Deletable b run other) (some-out : 0 < b .«out_len» .0) (g d : GlyphInfo) (eg : seen g ≡ getD (glyphs run) (b .idx .0) zeroGlyph)
     (ed : seen d ≡ getD (cond (b .«have_separate_output») (glyphs other) (glyphs run)) (b .«out_len» .0 - 1) zeroGlyph) where
   abbrev outs : List (Glyph ℕ)
   outs = cond (b .«have_separate_output») (glyphs other) (glyphs run)
@@ -194,32 +182,31 @@ module _ {b : Buffer} {run other : List ℕ} (v : Deletable b run other) (some-o
   current-mask : (current (accountOf b run other)) .mask ≡ g .mask
   current-mask = ap (λ (x : Info). x .mask) current-is ∙ seen-mask g
 
-  last-cluster : last (clusters ((accountOf b run other) .done)) ≡ d .cluster
+  last-cluster : lastCluster (clusters ((accountOf b run other) .done)) ≡ d .cluster
   last-cluster = last-of v some-out ∙ (ap (λ (x : Glyph ℕ). x .info .cluster) (sym ed) ∙ seen-cluster d)
 
   inherits-none : d .cluster ≤ g .cluster → inheriting (accountOf b run other) ≡ accountOf b run other
   unfolding inheriting inherited
   inherits-none h =
-      let t : ltb ((current (accountOf b run other)) .cluster) (last (clusters ((accountOf b run other) .done))) ≡ false =
-      le-ltb ((current (accountOf b run other)) .cluster) (last (clusters ((accountOf b run other) .done))) (omega (arith, current-cluster, last-cluster)) in
+      let t : ltb ((current (accountOf b run other)) .cluster) (lastCluster (clusters ((accountOf b run other) .done))) ≡ false =
+      le-ltb ((current (accountOf b run other)) .cluster) (lastCluster (clusters ((accountOf b run other) .done))) (omega (arith, current-cluster, last-cluster)) in
       rw t
 
   pub inherit-none : d .cluster ≤ g .cluster → Acts inheriting b run other b run other
   inherit-none h = record { is = sym (inherits-none h); size = refl; side = refl; run-beyond = refl; other-beyond = refl; held = v .held }
 
   tail-clusters : clusters ((accountOf b run other) .done) ≡ take (b .«out_len» .0) (clusters outs)
-  unfolding accountOf
-  tail-clusters = clusters-take (b .«out_len» .0) outs
+  tail-clusters = ap clusters (done-list b run other) ∙ clusters-take (b .«out_len» .0) outs
 
   module _ (h : g .cluster < d .cluster) where
     inherits-some : inheriting (accountOf b run other) ≡ withDone (edit (b .«out_len» .0 - tails (is (d .cluster)) (take (b .«out_len» .0) (clusters outs))) (b .«out_len» .0) becomes (take (b .«out_len» .0) outs)) (accountOf b run other)
-    unfolding inheriting inherited accountOf
+    unfolding inheriting inherited
     inherits-some =
-        let t : ltb ((current (accountOf b run other)) .cluster) (last (clusters ((accountOf b run other) .done))) ≡ true =
-        lt-ltb ((current (accountOf b run other)) .cluster) (last (clusters ((accountOf b run other) .done))) (omega (arith, current-cluster, last-cluster)) in
+        let t : ltb ((current (accountOf b run other)) .cluster) (lastCluster (clusters ((accountOf b run other) .done))) ≡ true =
+        lt-ltb ((current (accountOf b run other)) .cluster) (lastCluster (clusters ((accountOf b run other) .done))) (omega (arith, current-cluster, last-cluster)) in
         let n : length (clusters ((accountOf b run other) .done)) ≡ b .«out_len» .0 = done-many v in
         rw t
-        (λ k. withDone (edit (n k - tails (is (last-cluster k)) (tail-clusters k)) (n k) (setCluster (current-cluster k) (current-mask k)) ((accountOf b run other) .done)) (accountOf b run other))
+        (λ k. withDone (edit (n k - tails (is (last-cluster k)) (tail-clusters k)) (n k) (setCluster (current-cluster k) (current-mask k)) (done-list b run other k)) (accountOf b run other))
 
     module _ (run′ other′ : List ℕ) (eo : cond (b .«have_separate_output») (glyphs other′) (glyphs run′) ≡ edit (b .«out_len» .0 - tails (is (d .cluster)) (take (b .«out_len» .0) (clusters outs))) (b .«out_len» .0) becomes outs)
         (er : drop (b .idx .0) (glyphs run′) ≡ drop (b .idx .0) (glyphs run)) where

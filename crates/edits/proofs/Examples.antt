@@ -2,7 +2,7 @@
 use mathlib.Core.{Path._≡_, Path.refl, Bool.true, Option.some, List.List, List.[], List._∷_}
 use Prim.Native.Nat.{ℕ}
 use Rattle.records.specs.{Phase, Plain, Output, InputPlace, OutOfRange, BadOperand, OverCapacity, Counters.freshLimits, Counters.costs, Counters.grown, Glyphs.Glyph, Glyphs.zeroPosition}
-use Rattle.lists.specs.{Account.Account, Account.limiting, Results.refused, Results.accepted}
+use Rattle.lists.specs.{Account.Account, Account.limiting, Account.refused, Account.accepted}
 use Rattle.edits.specs.Writing.{copyGlyph, outputGlyph, replaceGlyphs}
 use Rattle.edits.specs.Merging.{mergeInput, mergeDone, clustersMerge}
 use Rattle.edits.specs.Deleting.{deleteGlyph}

@@ -4,21 +4,23 @@ use Prim.Native.Nat.{ℕ, _-_, _/_, _%_, _≤_, _<_}
 use native.Mathlib.Omega.{arith}
 use borrow.Author.Tests.{le-ltb, lt-ltb, ltb-false, eq-eqb, ne-eqb}
 use lib.{Dec.ltb, ListN.length, ListN.drop, Seq.slice}
-use Rattle.records.specs.{Phase, Plain, Output, Positions, Spoiled, InputPlace, Contradiction, WrongPhase, OutOfRange, Done, No, Glyphs.flagged, Ranges.clusters, Ranges.edit, View.glyphs, View.placements}
+use Rattle.records.specs.{Phase, InputPlace, Contradiction, WrongPhase, OutOfRange, Done, No, Glyphs.flagged, Ranges.clusters, Ranges.edit, View.glyphs, View.positionsIn}
 use Rattle.records.proofs.View.{glyphs-same}
-use Rattle.lists.specs.declared.{Buffer.Buffer, Verdict.Verdict}
-use Rattle.lists.specs.{Account.readLevel, Account.Account, Account.State, Account.outputPhase, Account.spoiledPhase, Account.isSpoiled, Account.len, Account.withLimits, Results.refused, Results.accepted, Results.refuse_when_else_, State.shown, State.goneOf, State.stateOf, State.accountOf, State.sound, State.Held, States.withLimitsOf, Verdicts.Leaves, Verdicts.settled, Verdicts.Sided, Verdicts.Decided}
+use Rattle.lists.specs.{declared.Buffer.Buffer, declared.Verdict.Verdict}
+use Rattle.lists.specs.{Account.readLevel, Account.Account, Account.State, Account.outputPhase, Account.spoiledPhase, Account.isSpoiled, Account.len, Account.refused, Account.accepted, Contract.shown, Contract.goneOf, Contract.stateOf, Contract.accountOf, Contract.sound, inner.Held.Held, inner.Verdicts.Leaves, inner.Verdicts.settled, inner.Verdicts.Sided, inner.Verdicts.Decided}
 use Rattle.lists.proofs.{Accounts.spoiled-of, Accounts.len-of, Accounts.gone-of, Accounts.wants-of, SoundLaws.sound-held, Decisions.near-same, Decisions.accepts, Decisions.decided-unsound, Decisions.decided-refused, Decisions.decided-accepted, Decisions.decided-does}
 use Rattle.lists.proofs.SoundLaws.{soundness}
+use Rattle.lists.proofs.Refusing.{refusing}
 use Rattle.records.proofs.Tests.{tested}
-use Rattle.edits.specs.declared.{InputBound.InputBound}
-use Rattle.edits.specs.{Acts.Acts, Acts.Mergeful, Bounds.inputBound, Bounds.inputNumber, Flags.interior, Flags.sought, Flags.flagInterior, Flags.flagAll, Flags.number, Flags.tooFar, Flags.startOf, Flags.endOf, Flags.plainForm, Flags.wantsConcat, Flags.wantsTatweel, Holding.holds, Marks.flaggedRun, Marks.Flaggable, Marks.Flagged, Marks.FlagsInput}
+use Rattle.lists.proofs.Showing.{on-shown, account-same}
+use Rattle.records.proofs.Edited.{edit-drop-behind}
+use Rattle.edits.specs.declared.InputBound.{InputBound}
+use Rattle.edits.specs.{inner.Acts.Acts, inner.Acts.Mergeful, Flags.inputBound, inner.BoundNumbers.inputNumber, Flags.interior, Flags.sought, Flags.flagInterior, Flags.flagAll, Flags.placeNumber, Flags.tooFar, Flags.startOf, Flags.endOf, Flags.plainForm, Flags.wantsConcat, Flags.wantsTatweel, inner.Holding.holds, inner.Marks.flaggedRun, inner.Marks.Flaggable, inner.Marks.Flagged, inner.Marks.FlagsInput}
 use Rattle.edits.proofs.MergeForms.{InputRange, InputFrom}
 use Rattle.edits.proofs.BoundLaws.{end-most}
 use Rattle.edits.proofs.FlagLaws.{flagged-all, flagged-all-within}
 use Rattle.edits.proofs.Places.{paired-flagged-all}
-use Rattle.edits.proofs.Holding.{edit-drop-behind}
-use Rattle.edits.proofs.MergeCalls.{account-apart, account-within, acts-free, from-gone, range-apart, range-within, out-low, width, flag-is, flag-behind, neither-left, neither-right, in-acts}
+use Rattle.edits.proofs.MergeCalls.{own-apart, own-within, acts-free, from-gone, range-apart, range-within, out-low, width, flag-is, flag-behind, neither-left, neither-right, in-acts}
 
 -- what a plain form does
 abbrev flagPlain : Bool → ℕ → ℕ → ℕ → Account ℕ → Account ℕ
@@ -28,37 +30,23 @@ flagPlain interiorly bits i j a = cond interiorly (flagInterior bits i j a) (fla
 shown-all : (run run′ other : List ℕ) {gone idx len outLen s e : ℕ} → InputFrom gone idx len s → outLen ≤ gone → (p : Phase) → spoiledPhase p ≡ false → InputRange (glyphs run) (glyphs run) len outLen s e → (bits : ℕ) (k : State)
     → glyphs run′ ≡ edit s e (flagged bits) (glyphs run)
     → holds (shown p run′ other) (shown p run′ other) gone idx len outLen k ≡ flagAll bits (s - gone) (e - gone) (holds (shown p run other) (shown p run other) gone idx len outLen k)
-unfolding shown
-shown-all run run′ other w low Plain h v bits k er = flagged-all-within v w low bits k er
-shown-all run run′ other w low Output h v bits k er = flagged-all-within v w low bits k er
-shown-all run run′ other w low Positions h v bits k er = paired-flagged-all v (placements other) w low bits k er
-shown-all run run′ other w low Spoiled h v bits k er = absurd (false≢true (sym h))
-
-shown-same : (p : Phase) (run run′ other : List ℕ) → glyphs run′ ≡ glyphs run → shown p run′ other ≡ shown p run other
-unfolding shown
-shown-same Plain run run′ other e = e
-shown-same Output run run′ other e = e
-shown-same Positions run run′ other e = rw e
-shown-same Spoiled run run′ other e = refl
-
-account-same : (b : Buffer) (run run′ other : List ℕ) → glyphs run′ ≡ glyphs run → accountOf b run′ other ≡ accountOf b run other
-unfolding accountOf
-account-same b run run′ other e = rw (e, shown-same (b .phase) run run′ other e)
+shown-all run run′ other {gone} {idx} {len} {outLen} {s} {e} w low p h v bits k er =
+    on-shown (λ x. holds (x run′ other) (x run′ other) gone idx len outLen k ≡ flagAll bits (s - gone) (e - gone) (holds (x run other) (x run other) gone idx len outLen k)) p h
+    (flagged-all-within v w low bits k er) (paired-flagged-all v (positionsIn other) w low bits k er)
 
 -- ---- from the glyphs to the account
 module _ {b : Buffer} {run other : List ℕ} {s e : ℕ} (v : Mergeful b s e run other) (bits : ℕ) (run′ : List ℕ) where
   all-is : glyphs run′ ≡ edit s e (flagged bits) (glyphs run) → accountOf b run′ other ≡ flagAll bits (s - goneOf b) (e - goneOf b) (accountOf b run other)
-  unfolding withLimitsOf withLimits stateOf
   all-is eg = by-place (outputPhase (b .phase) && b .«have_separate_output») refl
     where
       by-place : (x : Bool) → (outputPhase (b .phase) && b .«have_separate_output») ≡ x → accountOf b run′ other ≡ flagAll bits (s - goneOf b) (e - goneOf b) (accountOf b run other)
       by-place true h =
-          account-apart b (b .limits) run′ other h
-          ∙ (flagged-all (range-apart v) (from-gone v) bits (stateOf b) (glyphs other) eg refl ∙ ap (flagAll bits (s - goneOf b) (e - goneOf b)) (sym (account-apart b (b .limits) run other h)))
+          own-apart b run′ other h
+          ∙ (flagged-all (range-apart v) (from-gone v) bits (stateOf b) (glyphs other) eg refl ∙ ap (flagAll bits (s - goneOf b) (e - goneOf b)) (sym (own-apart b run other h)))
       by-place false h =
-          account-within b (b .limits) run′ other h (v .held .none)
+          own-within b run′ other h (v .held .none)
           ∙ (shown-all run run′ other (from-gone v) (out-low v h) (b .phase) (v .whole) (range-within v) bits (stateOf b) eg
-          ∙ ap (flagAll bits (s - goneOf b) (e - goneOf b)) (sym (account-within b (b .limits) run other h (v .held .none))))
+          ∙ ap (flagAll bits (s - goneOf b) (e - goneOf b)) (sym (own-within b run other h (v .held .none))))
 
   short-is : ltb (e - s) 2 ≡ true → glyphs run′ ≡ glyphs run → accountOf b run′ other ≡ flagInterior bits (s - goneOf b) (e - goneOf b) (accountOf b run other)
   unfolding flagInterior
@@ -100,28 +88,28 @@ start-past s b e = ap (ltb s) e
 
 module _ (interiorly wanted : Bool) (bits : ℕ) (s e : Option InputPlace) (a : Account ℕ) where
   abbrev s′ : Option ℕ
-  s′ = number (λ p. p .0) s
+  s′ = placeNumber (λ p. p .0) s
 
   abbrev e′ : Option ℕ
-  e′ = number (λ p. p .0) e
+  e′ = placeNumber (λ p. p .0) e
 
   plain-in-spoiled : isSpoiled a ≡ true → plainForm interiorly wanted bits s e a ≡ refused WrongPhase
-  unfolding plainForm refuse_when_else_
-  plain-in-spoiled h = rw h
+  unfolding plainForm
+  plain-in-spoiled h = simp (h, refusing)
 
   module _ (h : isSpoiled a ≡ false) where
     plain-in-idle : (not wanted || tooFar s′ e′) ≡ true → plainForm interiorly wanted bits s e a ≡ accepted a
-    unfolding plainForm refuse_when_else_
-    plain-in-idle k = rw (h, k)
+    unfolding plainForm
+    plain-in-idle k = simp (h, k, refusing)
 
     module _ (k : (not wanted || tooFar s′ e′) ≡ false) {i j g : ℕ} (ei : i ≡ startOf s′) (ej : j ≡ endOf e′ (len a)) (eg : g ≡ a .state .gone) where
       plain-in-outside : (ltb j i || ltb i g) ≡ true → plainForm interiorly wanted bits s e a ≡ refused OutOfRange
-      unfolding plainForm refuse_when_else_
-      plain-in-outside o = rw (h, k, ← ei, ← ej, ← eg, o)
+      unfolding plainForm
+      plain-in-outside o = simp (h, k, ← ei, ← ej, ← eg, o, refusing)
 
       plain-in-flags : (ltb j i || ltb i g) ≡ false → plainForm interiorly wanted bits s e a ≡ accepted (flagPlain interiorly bits (i - g) (j - g) a)
-      unfolding plainForm refuse_when_else_
-      plain-in-flags o = rw (h, k, ← ei, ← ej, ← eg, o)
+      unfolding plainForm
+      plain-in-flags o = simp (h, k, ← ei, ← ej, ← eg, o, refusing)
 
 -- ---- what the code tested, as the account says it
 pub idle-of : (b : Buffer) (run other : List ℕ) (concat x : Bool) {far idle : Bool} → far ≡ x → idle ≡ (not (not concat || wantsConcat (b .wants)) || far) → (not (not concat || wantsConcat ((accountOf b run other) .state .wants)) || x) ≡ idle

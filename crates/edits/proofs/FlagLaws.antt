@@ -7,23 +7,24 @@ use lib.Dec.{ltb}
 use lib.ListN.{take, drop, length, getD}
 use lib.Seq.{slice, slice-empty, length-slice}
 use borrow.Author.Tests.{eq-eqb, ne-eqb, le-ltb}
-use Rattle.records.specs.{Glyphs.Glyph, Glyphs.flagged, Glyphs.flaggedUnless, Ranges.edit, Ranges.is, Ranges.isnt, Ranges.least, Ranges.first, Ranges.last, Ranges.heads, Ranges.tails, Ranges.clusters}
+use Rattle.records.specs.{Glyphs.Glyph, Glyphs.flagged, Glyphs.flaggedUnless, Ranges.edit, Ranges.is, Ranges.isnt, Ranges.least, Ranges.firstCluster, Ranges.lastCluster, Ranges.heads, Ranges.tails, Ranges.clusters}
 use Rattle.records.proofs.View.{length-clusters}
+use Rattle.records.proofs.Edited.{clusters-take, clusters-drop, edit-take-before, edit-drop-behind}
 use Rattle.lists.specs.Account.{Account, State, input, withInput}
 use Rattle.lists.proofs.{Runs.heads-le, Runs.tails-le, Editing.edit-empty, Editing.edit-length}
 use Rattle.edits.specs.Flags.{interior, sought, seeksAll, flagInterior, flagAll}
-use Rattle.edits.specs.Holding.{holds, cut}
+use Rattle.edits.specs.inner.Holding.{holds, cut}
 use Rattle.edits.proofs.MergeForms.{InputRange, InputFrom}
 use Rattle.edits.proofs.MergePlans.{first-slice, last-slice}
-use Rattle.edits.proofs.Holding.{slice-take, slice-shift, clusters-take, clusters-drop, edit-take-before, edit-drop-behind}
+use Rattle.edits.proofs.Holding.{slice-take, slice-shift}
 use Rattle.edits.proofs.Bridge.{input-is, holds-input, input-edit}
 
 -- ---- the interior form, from what its code tests and does: f and e are the clusters at the ends of a range i..j of l
 module _ (level m bits i j : ℕ) (l : List (Glyph ℕ)) {f e : ℕ} {t : Bool} (v : (i < j) × (j ≤ length l)) (ef : f ≡ getD (clusters l) i 4294967295) (ee : e ≡ getD (clusters l) (j - 1) 4294967295) (et : t ≡ (seeksAll level || (isnt m f && isnt m e))) where
-  f-is : first (slice i j (clusters l)) ≡ f
+  f-is : firstCluster (slice i j (clusters l)) ≡ f
   f-is = first-slice i j (clusters l) (v .0) (rw (length-clusters l) (v .1)) ∙ sym ef
 
-  e-is : last (slice i j (clusters l)) ≡ e
+  e-is : lastCluster (slice i j (clusters l)) ≡ e
   e-is = last-slice i j (clusters l) (v .0) (rw (length-clusters l) (v .1)) ∙ sym ee
 
   pub interior-all : {l′ : List (Glyph ℕ)} → t ≡ true → l′ ≡ edit i j (flaggedUnless m bits) l → l′ ≡ interior level m bits i j l
@@ -94,7 +95,7 @@ module _ (level m bits gone len i j : ℕ) (run : List (Glyph ℕ)) (oi : gone �
       let n : length r ≡ j - i = length-slice i j (clusters run) (rw (length-clusters run) (omega arith)) in
       let t : tails (isnt m) r ≤ j - i = omega (arith, tails-le (isnt m) r) in
       let h : heads (isnt m) r ≤ j - i = omega (arith, heads-le (isnt m) r) in
-      rw range-in (pick (is 2 level || (isnt m (first r) && isnt m (last r))) (is m (first r)) (tails (isnt m) r) (heads (isnt m) r) t h)
+      rw range-in (pick (is 2 level || (isnt m (firstCluster r) && isnt m (lastCluster r))) (is m (firstCluster r)) (tails (isnt m) r) (heads (isnt m) r) t h)
     where
       back : (t : ℕ) → t ≤ j - i → j - t - gone ≡ j - gone - t
       back t o = omega arith
@@ -113,7 +114,7 @@ pub interior-length : (level m bits i j : ℕ) (run : List (Glyph ℕ)) → i �
 unfolding interior
 interior-length level m bits i j run o =
     let r : List ℕ = slice i j (clusters run) in
-    pick (is 2 level || (isnt m (first r) && isnt m (last r))) (is m (first r)) (tails (isnt m) r) (heads (isnt m) r)
+    pick (is 2 level || (isnt m (firstCluster r) && isnt m (lastCluster r))) (is m (firstCluster r)) (tails (isnt m) r) (heads (isnt m) r)
   where
     pick : (b c : Bool) (t h : ℕ) → length (cond b (edit i j (flaggedUnless m bits) run) (cond c (edit (j - t) j (flagged bits) run) (edit i (i + h) (flagged bits) run))) ≡ length run
     pick true c t h = edit-length (flaggedUnless m bits) i j run o
@@ -127,7 +128,7 @@ module _ (level m bits n i j : ℕ) (run : List (Glyph ℕ)) (o : i ≤ j) (b : 
   interior-behind f =
       let r : List ℕ = slice i j (clusters run) in
       let w : length r ≡ j - i = length-slice i j (clusters run) (rw (length-clusters run) b) in
-      pick (is 2 level || (isnt m (first r) && isnt m (last r))) (is m (first r)) (tails (isnt m) r) (heads (isnt m) r) (omega (arith, heads-le (isnt m) r))
+      pick (is 2 level || (isnt m (firstCluster r) && isnt m (lastCluster r))) (is m (firstCluster r)) (tails (isnt m) r) (heads (isnt m) r) (omega (arith, heads-le (isnt m) r))
     where
       pick : (b c : Bool) (t h : ℕ) → h ≤ j - i → drop n (cond b (edit i j (flaggedUnless m bits) run) (cond c (edit (j - t) j (flagged bits) run) (edit i (i + h) (flagged bits) run))) ≡ drop n run
       pick true c t h oh = edit-drop-behind (flaggedUnless m bits) i j n run o f
@@ -139,7 +140,7 @@ module _ (level m bits n i j : ℕ) (run : List (Glyph ℕ)) (o : i ≤ j) (b : 
   interior-before a =
       let r : List ℕ = slice i j (clusters run) in
       let t : tails (isnt m) r ≤ j - i = omega (arith, tails-le (isnt m) r, length-slice i j (clusters run) (rw (length-clusters run) b)) in
-      pick (is 2 level || (isnt m (first r) && isnt m (last r))) (is m (first r)) (tails (isnt m) r) (heads (isnt m) r) t
+      pick (is 2 level || (isnt m (firstCluster r) && isnt m (lastCluster r))) (is m (firstCluster r)) (tails (isnt m) r) (heads (isnt m) r) t
     where
       pick : (b c : Bool) (t h : ℕ) → t ≤ j - i → take n (cond b (edit i j (flaggedUnless m bits) run) (cond c (edit (j - t) j (flagged bits) run) (edit i (i + h) (flagged bits) run))) ≡ take n run
       pick true c t h ot = edit-take-before (flaggedUnless m bits) i j n run a o
@@ -202,7 +203,7 @@ pub interior-empty : (level m bits i : ℕ) (l : List (Glyph ℕ)) → interior 
 unfolding interior heads tails
 interior-empty level m bits i l =
     let none : slice i i (clusters l) ≡ [] = slice-empty i (clusters l) in
-    rw (none, add-zero i, sub-zero i, edit-empty (flaggedUnless m bits) i l, edit-empty (flagged bits) i l) (same (is 2 level || (isnt m (first []) && isnt m (last []))) (is m (first [])))
+    rw (none, add-zero i, sub-zero i, edit-empty (flaggedUnless m bits) i l, edit-empty (flagged bits) i l) (same (is 2 level || (isnt m (firstCluster []) && isnt m (lastCluster []))) (is m (firstCluster [])))
   where
     same : (b c : Bool) → cond b l (cond c l l) ≡ l
     same true c = refl
@@ -210,7 +211,7 @@ interior-empty level m bits i l =
     same false false = refl
 
 pub sought-empty : (level i : ℕ) (cs : List ℕ) → sought level (slice i i cs) ≡ 4294967295
-unfolding sought least first last
+unfolding sought least firstCluster lastCluster
 sought-empty level i cs = rw (slice-empty i cs) (same (is 2 level))
   where
     same : (b : Bool) → cond b 4294967295 (min 4294967295 4294967295) ≡ 4294967295

@@ -3,7 +3,7 @@ use mathlib.Core.{Path._≡_, Path.refl, Path.ap, Path.ap₂, Path._∙_, List.L
 use Prim.Native.Nat.{ℕ, zero, suc, _+_, _*_, _/_, _%_, _<_}
 use native.Mathlib.Omega.{arith}
 use lib.{Arith.mod-mul, ListN.length, ListN.getD}
-use Rattle.edits.specs.{FlagTable.flagTable, FlagTable.EveryEntry, Groups.settled}
+use Rattle.edits.specs.{Groups.flagTable, Groups.EveryEntry, Groups.settledMask}
 use Rattle.edits.proofs.Executable.{executable}
 
 -- f at i and the n - 1 numbers after it
@@ -19,15 +19,15 @@ value-at f i (suc n) (suc k) h = value-at f (suc i) n k (omega (arith, h)) ∙ a
 
 -- the formula, by a place in the table
 formula : ℕ → ℕ
-formula k = settled (k / 8) (k % 8)
+formula k = settledMask (k / 8) (k % 8)
 
 -- computed, over the whole table
 table-values : flagTable ≡ valuesFrom formula 0 32
 unfolding flagTable valuesFrom formula executable
 table-values = refl
 
-low-wants : (wants x : ℕ) → settled (wants % 4) x ≡ settled wants x
-unfolding settled
+low-wants : (wants x : ℕ) → settledMask (wants % 4) x ≡ settledMask wants x
+unfolding settledMask
 low-wants wants x =
     let bits : wants % 4 ≡ (wants / 2 % 2) * 2 + wants % 2 = mod-mul wants {m = 2} {c = 2} (omega arith) (omega arith) in
     let concat : wants % 4 % 2 ≡ wants % 2 = omega (arith, bits) in
@@ -43,7 +43,7 @@ every-entry = (
       let place = 8 * (wants % 4) + joined in
       let row : (0 + place) / 8 ≡ wants % 4 = omega (arith, h) in
       let column : (0 + place) % 8 ≡ joined = omega (arith, h) in
-      ap (λ (l : List ℕ). getD l place 0) table-values ∙ (value-at formula 0 32 place (omega (arith, h)) ∙ (ap₂ settled row column ∙ low-wants wants joined)),
+      ap (λ (l : List ℕ). getD l place 0) table-values ∙ (value-at formula 0 32 place (omega (arith, h)) ∙ (ap₂ settledMask row column ∙ low-wants wants joined)),
 )
 
 -- ---- a slice that holds the table
@@ -51,6 +51,6 @@ pub entry-in : {table : List ℕ} → table ≡ flagTable → {place : ℕ} → 
 unfolding EveryEntry
 entry-in same h = rw (same, every-entry .0) h
 
-pub entry-is : {table : List ℕ} → table ≡ flagTable → (wants : ℕ) {joined : ℕ} → joined < 8 → getD table (8 * (wants % 4) + joined) 0 ≡ settled wants joined
+pub entry-is : {table : List ℕ} → table ≡ flagTable → (wants : ℕ) {joined : ℕ} → joined < 8 → getD table (8 * (wants % 4) + joined) 0 ≡ settledMask wants joined
 unfolding EveryEntry
 entry-is same wants {joined} low = ap (λ (l : List ℕ). getD l (8 * (wants % 4) + joined) 0) same ∙ every-entry .1 wants joined low

@@ -5,7 +5,7 @@ use native.Mathlib.Omega.{arith}
 use lib.{ListN.length, ListN.getD, ListN.length-append, ListN.List·getD-append, Seq.getD-append-add}
 use Rattle.records.specs.Bytes.{wordAt, wordsAt, wordsOf}
 use Rattle.records.proofs.ByteLaws.{length-words-of, word-of}
-use Rattle.edits.specs.Acts.{given}
+use Rattle.edits.specs.inner.Acts.{given}
 
 module _ (gs bs : List ℕ) where
   pub given-count : length gs + length bs / 4 ≡ length (given gs bs)

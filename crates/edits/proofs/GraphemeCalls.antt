@@ -4,10 +4,11 @@ use Prim.Native.Nat.{ℕ, _+_}
 use native.Mathlib.Omega.{arith}
 use lib.{Dec.eqb, Dec.ltb, ListN.length}
 use Rattle.records.specs.{Phase, Limits, WrongPhase, BadOperand, Glyphs.key, Ranges.infos, Ranges.is}
-use Rattle.lists.specs.declared.{Buffer.Buffer, Verdict.Verdict}
-use Rattle.lists.specs.{Account.readLevel, Account.Account, Account.withRest, Results.refused, Results.accepted, Results.refuse_when_else_, State.accountOf}
+use Rattle.lists.specs.{declared.Buffer.Buffer, declared.Verdict.Verdict}
+use Rattle.lists.specs.{Account.readLevel, Account.Account, Account.withRest, Account.refused, Account.accepted, Contract.accountOf}
 use Rattle.lists.proofs.Accounts.{level-of}
-use Rattle.edits.specs.{Charges.leftWith, Charges.DecidedBy, Charges.running, Charges.MergesEach, Charges.TakesKeyed, WholeRun.notWhole, Merging.merge, Groups.sizes, Groups.continues, Groups.regrouped, Groups.mergedEach, Groups.reverseGraphemes, Wholes.RunRoom, Reversals.Rearranges, Reversals.TurnsGraphemes, Reversals.Regroups, Reversals.regroups}
+use Rattle.lists.proofs.Refusing.{refusing}
+use Rattle.edits.specs.{inner.Charges.leftWith, inner.Charges.DecidedBy, inner.Charges.running, inner.Charges.MergesEach, inner.Charges.TakesKeyed, WholeRun.notWhole, Merging.merge, Groups.groupSizes, Groups.continues, Groups.regrouped, Groups.mergedEach, Groups.reverseGraphemes, inner.Wholes.RunRoom, inner.Reversals.Rearranges, inner.Reversals.TurnsGraphemes, inner.Reversals.Regroups, inner.Reversals.regroups}
 use Rattle.edits.proofs.{Chaining.acts-as, Chaining.acts-then, Charging.OnKeyed, Charging.charges-acts, Charging.settles-left, Charging.keyed-decided, Charging.whole-after, GroupLaws.graphemes-same, MergeEach.keys-merge, WholeInputs.not-not-whole, MergeCalls.in-acts, ReverseCalls.rearranged}
 
 -- ---- merges leave the keys of *rest* alone
@@ -18,12 +19,12 @@ module _ (slot mask : ℕ) where
   each-keys (n ∷ ns) s a = each-keys ns (s + n) (merge true s (s + n) a) ∙ keys-merge slot mask true s (s + n) a (omega arith)
 
   -- so the graphemes are the same
-  each-sizes : (ns : List ℕ) (a : Account ℕ) → sizes (continues slot mask) (infos ((mergedEach true ns 0 a) .rest)) ≡ sizes (continues slot mask) (infos (a .rest))
+  each-sizes : (ns : List ℕ) (a : Account ℕ) → groupSizes (continues slot mask) (infos ((mergedEach true ns 0 a) .rest)) ≡ groupSizes (continues slot mask) (infos (a .rest))
   each-sizes ns a = graphemes-same slot mask 0 (infos ((mergedEach true ns 0 a) .rest)) (infos (a .rest)) (each-keys ns 0 a)
 
 -- ---- the act, with merges and without
-in-phase : {phase : Phase} {n slot mask : ℕ} (b : Buffer) {run other run′ other′ : List ℕ} → b .phase ≡ phase → TurnsGraphemes phase n slot mask run other run′ other′ → Rearranges (λ k. regrouped (sizes (continues slot mask) (infos k)) k) (b .phase) n run other run′ other′
-in-phase {phase} {n} {slot} {mask} b {run} {other} {run′} {other′} e v = subst (λ (p : Phase). Rearranges (λ k. regrouped (sizes (continues slot mask) (infos k)) k) p n run other run′ other′) (sym e) (v .is)
+in-phase : {phase : Phase} {n slot mask : ℕ} (b : Buffer) {run other run′ other′ : List ℕ} → b .phase ≡ phase → TurnsGraphemes phase n slot mask run other run′ other′ → Rearranges (λ k. regrouped (groupSizes (continues slot mask) (infos k)) k) (b .phase) n run other run′ other′
+in-phase {phase} {n} {slot} {mask} b {run} {other} {run′} {other′} e v = subst (λ (p : Phase). Rearranges (λ k. regrouped (groupSizes (continues slot mask) (infos k)) k) p n run other run′ other′) (sym e) (v .is)
 
 module _ {phase : Phase} {slot mask level n : ℕ} {merging : Bool} {l : Limits} {run other : List ℕ} where
   pub regroup-plain : {run′ other′ : List ℕ} → TurnsGraphemes phase n slot mask run other run′ other′ → merging ≡ false → length run′ ≡ length run → length other′ ≡ length other
@@ -39,7 +40,7 @@ module _ {phase : Phase} {slot mask level n : ℕ} {merging : Bool} {l : Limits}
     is = record {
       acts = λ b w.
           let a : Account ℕ = accountOf (running level n l b) run other in
-          let ns : List ℕ = sizes (continues slot mask) (infos (a .rest)) in
+          let ns : List ℕ = groupSizes (continues slot mask) (infos (a .rest)) in
           let m : Account ℕ = mergedEach true ns 0 a in
           let u = c .is .acts b (w .whole) in
           rw h (acts-as (acts-then u lr lo (rearranged (whole-after b (w .whole) u lr lo) lr′ lo′ (in-phase b (w .is) v))) (ap (λ (k : List ℕ). withRest (regrouped k (m .rest)) m) (each-sizes slot mask ns a)));
@@ -49,16 +50,16 @@ module _ {phase : Phase} {slot mask level n : ℕ} {merging : Bool} {l : Limits}
 -- ---- the call
 module _ (slot mask : ℕ) (a : Account ℕ) where
   graphemes-refused : notWhole a ≡ true → reverseGraphemes slot mask a ≡ refused WrongPhase
-  unfolding reverseGraphemes refuse_when_else_
-  graphemes-refused h = rw h
+  unfolding reverseGraphemes
+  graphemes-refused h = simp (h, refusing)
 
   graphemes-bad : notWhole a ≡ false → ltb 1 slot ≡ true → reverseGraphemes slot mask a ≡ refused BadOperand
-  unfolding reverseGraphemes refuse_when_else_
-  graphemes-bad h k = rw (h, k)
+  unfolding reverseGraphemes
+  graphemes-bad h k = simp (h, k, refusing)
 
   graphemes-turned : notWhole a ≡ false → ltb 1 slot ≡ false → reverseGraphemes slot mask a ≡ accepted (regroups (is 1 (a .state .level)) slot mask a)
-  unfolding reverseGraphemes refuse_when_else_ regroups
-  graphemes-turned h k = rw (h, k)
+  unfolding reverseGraphemes regroups
+  graphemes-turned h k = simp (h, k, refusing)
 
 module _ {slot : ℕ} (mask : ℕ) {b : Buffer} {merging : Bool} {level : ℕ} (el : level ≡ readLevel (b .level)) (em : merging ≡ eqb level 1) where
   graphemes-on : OnKeyed Limits leftWith (λ capacity a. reverseGraphemes slot mask a) slot b (Regroups (b .phase) merging (b .level) (b .len .0) slot mask (b .limits))

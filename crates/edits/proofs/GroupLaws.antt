@@ -1,31 +1,33 @@
 -- Groups of neighbours: where each ends, and that they go by one word of each glyph.
-use mathlib.Core.{Path._≡_, Path.refl, Path.ap, Path.ap₂, Path.sym, Path._∙_, Bool.Bool, Bool.true, Bool.false, Bool.cond, Bool.false≢true, List.List, List.[], List._∷_, List.map}
+use mathlib.Core.{Path._≡_, Path.refl, Path.ap, Path.ap₂, Path.sym, Path._∙_, Bool.Bool, Bool.true, Bool.false, Bool.cond, List.List, List.[], List._∷_, List.map}
 use Prim.Native.Nat.{ℕ, suc, _+_, _-_, _≤_, _<_}
 use native.Mathlib.Omega.{arith}
 use native.Mathlib.Numerals.{add-one}
 use borrow.Author.Tests.{eqb-true}
 use lib.{ListN.take, ListN.drop, ListN.length, ListN.getD, ListN.length-map, ListN.length-drop, ListN.drop-of-length-le, ListN.List·getD-map, Seq.slice, Seq.drop-cons, Seq.drop-drop, Seq.getD-take, Seq.length-take-le}
-use Rattle.records.specs.{Phase, Plain, Output, Positions, Spoiled, Position, Glyphs.Glyph, Glyphs.Info, Glyphs.change, Glyphs.withPosition, Glyphs.blank, Glyphs.key, Ranges.infos, Ranges.clusters, Ranges.heads, Ranges.is, Ranges.isnt, View.glyphs, View.placements, View.paired}
-use Rattle.lists.specs.{Account.spoiledPhase, State.shown}
+use Rattle.records.specs.{Phase, Position, Glyphs.Glyph, Glyphs.Info, Glyphs.change, Glyphs.withPosition, Glyphs.blank, Glyphs.key, Ranges.infos, Ranges.clusters, Ranges.heads, Ranges.is, Ranges.isnt, View.glyphs, View.positionsIn}
+use Rattle.lists.specs.{Account.spoiledPhase, Contract.shown}
 use Rattle.lists.proofs.{Runs.heads-le, Infos.map-drop, Infos.words-take, Infos.clusters-infos, Accounts.length-shown}
-use Rattle.edits.specs.Groups.{joins, sizes, sameCluster, continues}
+use Rattle.edits.specs.Groups.{joins, groupSizes, sameCluster, continues}
 use Rattle.records.proofs.Pairs.{key-alone, cluster-alone}
+use Rattle.lists.proofs.Showing.{on-shown}
+use Rattle.records.proofs.Apart.{words-paired}
 
 -- ---- the first group. In it, p goes by q of f of the glyph that follows
 module _ (p : Info → Info → Bool) (f : Info → ℕ) (q : ℕ → Bool) (goes : (x y : Info) → q (f x) ≡ true → p x y ≡ q (f y)) where
-  first-group : (x : Info) (l : List Info) → ((y : Info) → p x y ≡ q (f y)) → sizes p (x ∷ l) ≡ suc (heads q (map f l)) ∷ sizes p (drop (heads q (map f l)) l)
-  unfolding sizes joins heads
+  first-group : (x : Info) (l : List Info) → ((y : Info) → p x y ≡ q (f y)) → groupSizes p (x ∷ l) ≡ suc (heads q (map f l)) ∷ groupSizes p (drop (heads q (map f l)) l)
+  unfolding groupSizes joins heads
   first-group x [] e = refl
   first-group x (y ∷ l) e = rw (e y) (by (q (f y)) (λ h. first-group y l (λ z. goes y z h)))
     where
-      by : (b : Bool) → (b ≡ true → sizes p (y ∷ l) ≡ suc (heads q (map f l)) ∷ sizes p (drop (heads q (map f l)) l))
-          → joins b (sizes p (y ∷ l)) ≡ suc (cond b (suc (heads q (map f l))) 0) ∷ sizes p (drop (cond b (suc (heads q (map f l))) 0) (y ∷ l))
+      by : (b : Bool) → (b ≡ true → groupSizes p (y ∷ l) ≡ suc (heads q (map f l)) ∷ groupSizes p (drop (heads q (map f l)) l))
+          → joins b (groupSizes p (y ∷ l)) ≡ suc (cond b (suc (heads q (map f l))) 0) ∷ groupSizes p (drop (cond b (suc (heads q (map f l))) 0) (y ∷ l))
       by true ih = rw (ih refl)
       by false ih = refl
 
   -- the group that starts at s
   group-at : (l : List Info) (s e : ℕ) (d : Info) → s < length l → ((y : Info) → p (getD l s d) y ≡ q (f y)) → e ≡ s + 1 + heads q (map f (drop (suc s) l))
-      → (s < e) × (e ≤ length l) × (sizes p (drop s l) ≡ (e - s) ∷ sizes p (drop e l))
+      → (s < e) × (e ≤ length l) × (groupSizes p (drop s l) ≡ (e - s) ∷ groupSizes p (drop e l))
   group-at l s e d o first ee =
       let h : ℕ = heads q (map f (drop (suc s) l)) in
       let most : h ≤ length l - suc s = rw (length-map (drop (suc s) l) f, length-drop (suc s) l) at (heads-le q (map f (drop (suc s) l))) in
@@ -33,31 +35,21 @@ module _ (p : Info → Info → Bool) (f : Info → ℕ) (q : ℕ → Bool) (goe
       let end : suc s + h ≡ e = omega (arith, ee) in (
         omega (arith, ee),
         omega (arith, ee, most),
-        ap (sizes p) (drop-cons l s d o)
+        ap (groupSizes p) (drop-cons l s d o)
             ∙ (first-group (getD l s d) (drop (suc s) l) first
-            ∙ ap₂ {C = List ℕ} (λ (n : ℕ) (r : List Info). n ∷ sizes p r) wide (drop-drop h (suc s) l ∙ ap (λ (n : ℕ). drop n l) end)),
+            ∙ ap₂ {C = List ℕ} (λ (n : ℕ) (r : List Info). n ∷ groupSizes p r) wide (drop-drop h (suc s) l ∙ ap (λ (n : ℕ). drop n l) end)),
       )
 
 -- ---- what a view of the run does not change
 module _ (f : Info → ℕ) (bare : (p : Position) (i : Info) → f (withPosition p i) ≡ f i) where
-  pub words-paired : (l : List (Glyph ℕ)) (ps : List Position) → map f (infos (paired l ps)) ≡ map f (infos l)
-  unfolding infos paired change
-  words-paired [] ps = refl
-  words-paired (g ∷ l) [] = ap {B = List ℕ} (λ r. f (g .info) ∷ r) (words-paired l [])
-  words-paired (g ∷ l) (p ∷ ps) = rw (bare p (g .info)) (ap {B = List ℕ} (λ r. f (g .info) ∷ r) (words-paired l ps))
-
   pub words-shown : (p : Phase) (run other : List ℕ) → spoiledPhase p ≡ false → map f (infos (shown p run other)) ≡ map f (infos (glyphs run))
-  unfolding shown
-  words-shown Plain run other h = refl
-  words-shown Output run other h = refl
-  words-shown Positions run other h = words-paired (glyphs run) (placements other)
-  words-shown Spoiled run other h = absurd (false≢true (sym h))
+  words-shown p run other h = on-shown (λ x. map f (infos (x run other)) ≡ map f (infos (glyphs run))) p h refl (words-paired f bare (glyphs run) (positionsIn other))
 
 -- ---- of the first len glyphs of a run, a group from s to e
 pub record Group (p : Info → Info → Bool) (l : List (Glyph ℕ)) (len s e : ℕ) : Type 0 where
   pub after : s < e
   pub inside : e ≤ len
-  pub is : sizes p (drop s (infos (take len l))) ≡ (e - s) ∷ sizes p (drop e (infos (take len l)))
+  pub is : groupSizes p (drop s (infos (take len l))) ≡ (e - s) ∷ groupSizes p (drop e (infos (take len l)))
 
 module _ (phase : Phase) (run other : List ℕ) {len : ℕ} (clean : spoiledPhase phase ≡ false) (fits : len ≤ length (glyphs run)) where
   length-seen : length (infos (take len (shown phase run other))) ≡ len
@@ -65,8 +57,8 @@ module _ (phase : Phase) (run other : List ℕ) {len : ℕ} (clean : spoiledPhas
   length-seen = length-map (take len (shown phase run other)) (λ g. g .info) ∙ length-take-le len (shown phase run other) (rw (length-shown phase run other clean) fits)
 
   -- none from the end on
-  pub no-group : (p : Info → Info → Bool) → sizes p (drop len (infos (take len (shown phase run other)))) ≡ []
-  unfolding sizes
+  pub no-group : (p : Info → Info → Bool) → groupSizes p (drop len (infos (take len (shown phase run other)))) ≡ []
+  unfolding groupSizes
   no-group p =
       let b : length (infos (take len (shown phase run other))) ≤ len = omega (arith, length-seen) in
       rw (drop-of-length-le (infos (take len (shown phase run other))) b)
@@ -83,7 +75,7 @@ module _ (phase : Phase) (run other : List ℕ) {len : ℕ} (clean : spoiledPhas
     group-seen p q goes {s} {e} d o first ee =
         let l : List Info = infos (take len (shown phase run other)) in
         let ks : slice (s + 1) len (map f (infos (glyphs run))) ≡ map f (drop (suc s) l) = rw add-one (sym (seen-from (suc s))) in
-        let g : (s < e) × (e ≤ length l) × (sizes p (drop s l) ≡ (e - s) ∷ sizes p (drop e l)) =
+        let g : (s < e) × (e ≤ length l) × (groupSizes p (drop s l) ≡ (e - s) ∷ groupSizes p (drop e l)) =
         group-at p f q goes l s e d (rw length-seen o) first (ee ∙ ap (λ (r : List ℕ). s + 1 + heads q r) ks) in
         record { after = g .0; inside = rw length-seen at (g .1); is = g .2 }
 
@@ -117,20 +109,20 @@ counted r (x ∷ []) = 1 ∷ []
 counted r (x ∷ (y ∷ ys)) = joins (r x y) (counted r (y ∷ ys))
 
 module _ (r : ℕ → ℕ → Bool) (f : Info → ℕ) where
-  sizes-counted : (l : List Info) → sizes (λ x y. r (f x) (f y)) l ≡ counted r (map f l)
-  unfolding sizes counted
+  sizes-counted : (l : List Info) → groupSizes (λ x y. r (f x) (f y)) l ≡ counted r (map f l)
+  unfolding groupSizes counted
   sizes-counted [] = refl
   sizes-counted (x ∷ []) = refl
   sizes-counted (x ∷ (y ∷ l)) = ap (joins (r (f x) (f y))) (sizes-counted (y ∷ l))
 
-  sizes-same : (n : ℕ) (l m : List Info) → map f l ≡ map f m → sizes (λ x y. r (f x) (f y)) (drop n l) ≡ sizes (λ x y. r (f x) (f y)) (drop n m)
+  sizes-same : (n : ℕ) (l m : List Info) → map f l ≡ map f m → groupSizes (λ x y. r (f x) (f y)) (drop n l) ≡ groupSizes (λ x y. r (f x) (f y)) (drop n m)
   sizes-same n l m e =
       sizes-counted (drop n l)
       ∙ (ap (counted r) (map-drop f n l ∙ (ap (drop n) e ∙ sym (map-drop f n m)))
       ∙ sym (sizes-counted (drop n m)))
 
-pub graphemes-same : (slot mask n : ℕ) (l m : List Info) → map (key slot mask) l ≡ map (key slot mask) m → sizes (continues slot mask) (drop n l) ≡ sizes (continues slot mask) (drop n m)
+pub graphemes-same : (slot mask n : ℕ) (l m : List Info) → map (key slot mask) l ≡ map (key slot mask) m → groupSizes (continues slot mask) (drop n l) ≡ groupSizes (continues slot mask) (drop n m)
 graphemes-same slot mask n l m e = sizes-same (λ x y. isnt 0 y) (key slot mask) n l m e
 
-pub clusters-same : (n : ℕ) (l m : List Info) → map (λ i. i .cluster) l ≡ map (λ i. i .cluster) m → sizes sameCluster (drop n l) ≡ sizes sameCluster (drop n m)
+pub clusters-same : (n : ℕ) (l m : List Info) → map (λ i. i .cluster) l ≡ map (λ i. i .cluster) m → groupSizes sameCluster (drop n l) ≡ groupSizes sameCluster (drop n m)
 clusters-same n l m e = sizes-same (λ x y. is x y) (λ i. i .cluster) n l m e

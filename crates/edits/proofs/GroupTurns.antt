@@ -4,9 +4,9 @@ use Prim.Native.Nat.{ℕ, _+_, _-_, _≤_, _<_, zero-le}
 use native.Mathlib.Nat.{le-refl}
 use native.Mathlib.Omega.{arith}
 use lib.{ListN.length, ListN.take, ListN.drop, ListN.getD, Seq.slice}
-use Rattle.records.specs.{Phase, Glyphs.Info, Glyphs.key, Ranges.infos, Ranges.clusters, Ranges.heads, Ranges.is, Ranges.isnt, View.glyphs, View.placements}
-use Rattle.lists.specs.{State.shown}
-use Rattle.edits.specs.{Groups.sizes, Groups.sameCluster, Groups.continues, Groups.regrouped, Wholes.RunOf, Reversals.Turns, Reversals.Rearranges, Reversals.TurnsGraphemes}
+use Rattle.records.specs.{Phase, Glyphs.Info, Glyphs.key, Ranges.infos, Ranges.clusters, Ranges.heads, Ranges.is, Ranges.isnt, View.glyphs, View.positionsIn}
+use Rattle.lists.specs.{Contract.shown}
+use Rattle.edits.specs.{Groups.groupSizes, Groups.sameCluster, Groups.continues, Groups.regrouped, inner.Wholes.RunOf, inner.Reversals.Turns, inner.Reversals.Rearranges, inner.Reversals.TurnsGraphemes}
 use Rattle.edits.proofs.GroupLaws.{Group, cluster-group, grapheme-group}
 use Rattle.edits.proofs.Regroups.{Regrouping, regrouping-none, regrouping-more, regrouping-done}
 use Rattle.edits.proofs.ReverseCalls.{shown-length, turns-rearrange}
@@ -18,7 +18,7 @@ pub record GroupTurning (p : Info → Info → Bool) (phase : Phase) (n : ℕ) (
   pub groups : Regrouping p (take n (shown phase run₀ other₀)) (take n (shown phase run other)) i
   pub first : length (take n (shown phase run₀ other₀)) ≡ n
   pub run-behind : drop n (glyphs run) ≡ drop n (glyphs run₀)
-  pub other-behind : drop n (placements other) ≡ drop n (placements other₀)
+  pub other-behind : drop n (positionsIn other) ≡ drop n (positionsIn other₀)
   pub run-len : length run ≡ length run₀
   pub other-len : length other ≡ length other₀
 
@@ -50,7 +50,7 @@ module _ {p : Info → Info → Bool} {phase : Phase} {n : ℕ} where
           other-len = lo ∙ v .other-len;
         }
 
-    pub groups-done : n ≤ i → Turns phase 0 n run other run′ other′ → Rearranges (λ l. regrouped (sizes p (infos l)) l) phase n run₀ other₀ run′ other′
+    pub groups-done : n ≤ i → Turns phase 0 n run other run′ other′ → Rearranges (λ l. regrouped (groupSizes p (infos l)) l) phase n run₀ other₀ run′ other′
     groups-done o turns = let t = turns-rearrange (v .whole) zero-le (le-refl n) turns in record {
       is = regrouping-done (v .groups) (omega (arith, o, v .first)) (v .first) (t .is);
       run-behind = t .run-behind ∙ v .run-behind;
@@ -77,7 +77,7 @@ module _ {p : Info → Info → Bool} {phase : Phase} {n : ℕ} {run₀ other₀
   turning-less = omega (arith, g .after, g .inside)
 
 -- the groups of one cluster
-pub clusters-done : {phase : Phase} {n i : ℕ} {run₀ other₀ run other run′ other′ : List ℕ} → GroupTurning sameCluster phase n run₀ other₀ run other i → n ≤ i → Turns phase 0 n run other run′ other′ → Rearranges (λ l. regrouped (sizes sameCluster (infos l)) l) phase n run₀ other₀ run′ other′
+pub clusters-done : {phase : Phase} {n i : ℕ} {run₀ other₀ run other run′ other′ : List ℕ} → GroupTurning sameCluster phase n run₀ other₀ run other i → n ≤ i → Turns phase 0 n run other run′ other′ → Rearranges (λ l. regrouped (groupSizes sameCluster (infos l)) l) phase n run₀ other₀ run′ other′
 clusters-done v o t = groups-done v o t
 
 -- and the graphemes

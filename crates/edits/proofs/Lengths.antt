@@ -4,26 +4,24 @@ use Prim.Native.Nat.{ℕ, _+_, _≤_, _<_, _^_}
 use native.Mathlib.Numerals.{add-one}
 use native.Mathlib.Omega.{arith}
 use lib.{ListN.length, ListN.take, ListN.drop, ListN.set, Seq.take-suc-set, Seq.drop-set-lt}
-use Rattle.records.specs.{Phase, Plain, Output, Positions, Spoiled, Limits, Contradiction, WrongPhase, OverCapacity, Answer, Done, No, Answers.said, Glyphs.Glyph, Glyphs.blank, Counters.capacityOf, Counters.grown, Ranges.copies, View.glyphs, View.placements, View.wordsFrom}
-use Rattle.records.proofs.View.{length-glyphs, glyphs-same, beyond-glyphs, beyond-placements, whole-same}
-use Rattle.lists.specs.declared.{Buffer.Buffer, Verdict.Verdict, Room.Room, Room.the-variants.Fits, Room.the-variants.GivesUp, Room.the-variants.Over}
-use Rattle.lists.specs.{Account.readLevel, Account.Account, Account.positionsPhase, Account.spoiledPhase, Account.hasPositions, Account.len, Account.limiting, Account.sized, Account.failing, Account.withLimits, Account.withRest, Contract.isNo, Results.Result, Results.refused, Results.accepted, Results.refuse_when_else_, Results.needing, State.shown, State.goneOf, State.stateOf, State.accountOf, State.sound, State.Soundness, State.Held, State.roomFor, States.reply, States.atPlaces, States.withLimitsOf, Verdicts.Leaves, Verdicts.failedBuffer, Verdicts.settled, Verdicts.Decided}
+use Rattle.records.specs.{Limits, Contradiction, WrongPhase, OverCapacity, Answer, Done, No, Answers.said, Glyphs.Glyph, Glyphs.blank, Counters.capacityOf, Counters.grown, Ranges.copies, View.glyphs, View.positionsIn, View.wordsFrom}
+use Rattle.records.proofs.View.{length-glyphs, glyphs-same, beyond-glyphs, beyond-positions, whole-same}
+use Rattle.lists.specs.{declared.Buffer.Buffer, declared.Verdict.Verdict, declared.Room.Room, declared.Room.the-variants.Fits, declared.Room.the-variants.GivesUp, declared.Room.the-variants.Over}
+use Rattle.lists.specs.{Account.Account, Account.positionsPhase, Account.hasPositions, Account.len, Account.limiting, Account.sized, Account.failing, Account.withLimits, Account.withRest, Contract.isNo, Account.Result, Account.refused, Account.accepted, Account.needing, Contract.shown, Contract.stateOf, Contract.accountOf, Contract.sound, inner.Held.Soundness, inner.Held.Held, inner.Held.roomFor, inner.States.reply, inner.States.atPlaces, inner.States.withLimitsOf, inner.Verdicts.Leaves, inner.Verdicts.failedBuffer, inner.Verdicts.settled, inner.Verdicts.Decided}
 use Rattle.lists.proofs.Sides.{MeetsIn}
 use Rattle.lists.proofs.{Accounts.limits-of, Accounts.len-of, SizeLaws.fits-within, SizeLaws.needing-fits, Calls.in-accepted, Accounts.positions-of, Inner.room-gives-up, Inner.room-over, CursorCalls.sound-len}
 use Rattle.lists.proofs.Decisions.{Near, near-placed, leaves-is, result, room-of, gives-up, decided-unsound, decided-refused, decided-accepted, decided-does}
 use Rattle.lists.proofs.SoundLaws.{soundness}
+use Rattle.lists.proofs.Refusing.{refusing}
 use Rattle.records.proofs.Tests.{tested}
-use Rattle.edits.specs.{Fills.longerBuffer, Fills.byLength, Fills.Lengthens, Fills.Puttable, Fills.Put, Fills.Pushes, WholeRun.notWhole, WholeRun.push, Wholes.WholeInput}
+use Rattle.records.proofs.Edited.{copies-one}
+use Rattle.lists.proofs.Changed.{changed, held-placed, state-placed}
+use Rattle.lists.proofs.Showing.{shown-glyphs}
+use Rattle.edits.specs.{inner.Fills.longerBuffer, inner.Fills.byLength, inner.Fills.Lengthens, inner.Fills.Puttable, inner.Fills.Put, inner.Fills.Pushes, WholeRun.notWhole, WholeRun.push, inner.Wholes.WholeInput}
+use Rattle.lists.proofs.Inner.{roomy-grown}
 use Rattle.edits.proofs.Holding.{behind-further, same-account}
 use Rattle.edits.proofs.WholeInputs.{wholeTest, not-not-whole, whole-gone, account-whole, whole-lengths}
 use Rattle.edits.proofs.WholeCalls.{OnWhole, whole-refuses, lying-whole, sound-whole}
-
-pub shown-plain : (p : Phase) (run other : List ℕ) → positionsPhase p ≡ false → spoiledPhase p ≡ false → shown p run other ≡ glyphs run
-unfolding shown
-shown-plain Plain run other h k = refl
-shown-plain Output run other h k = refl
-shown-plain Positions run other h k = absurd (false≢true (sym h))
-shown-plain Spoiled run other h k = absurd (false≢true (sym k))
 
 -- ---- a run of n glyphs, whose size is there
 pub longer-made : (b : Buffer) (n : ℕ) {l : Limits} {g r : Buffer} → l ≡ grown n (b .limits) → g ≡ withLimitsOf l b → r ≡ atPlaces (b .idx .0) n (b .«out_len» .0) g → r ≡ longerBuffer n b
@@ -45,43 +43,31 @@ module _ {b : Buffer} {run other : List ℕ} (w : WholeInput b run other) where
     room-fits x y = needing-fits _ _ (accountOf b run other) x y (ap (roomFor (capacityOf (length run)) n) (limits-of b run other) ∙ h)
 
     pub longer-held : Held (longerBuffer n b) run other
-    unfolding longerBuffer atPlaces withLimitsOf grown
+    unfolding longerBuffer
     longer-held =
-        let fit : n ≤ length (glyphs run) = size-within in
-        record {
-          idx-in = omega (arith, w .start);
-          len-in = omega arith;
-          out-in = omega (arith, w .held .out-in);
-          all-in = omega (arith, w .held .all-in);
-          most = w .held .most;
-          same = w .held .same;
-          whole = w .held .whole;
-          behind = w .held .behind;
-          none = w .held .none;
-        }
+        let r = roomy-grown b run other (w .held) n h in
+        held-placed (w .held) _ _ _ _ (omega (arith, w .start)) (r .room) (omega (arith, w .held .out-in, r .grows)) (r .within) (w .held .behind) (w .held .none)
 
     longer-whole : WholeInput (longerBuffer n b) run other
-    unfolding longerBuffer atPlaces withLimitsOf
-    longer-whole = record { held = longer-held; plain = w .plain; clean = w .clean; start = w .start }
+    unfolding longerBuffer
+    longer-whole = record { held = longer-held; plain = simp changed (w .plain); clean = simp changed (w .clean); start = simp changed (w .start) }
 
     pub longer-side : (longerBuffer n b) .swapped ≡ b .swapped
-    unfolding longerBuffer atPlaces withLimitsOf
-    longer-side = refl
+    unfolding longerBuffer
+    longer-side = simp changed
 
     longer-size : n ≤ (longerBuffer n b) .limits .allocated
-    unfolding longerBuffer atPlaces withLimitsOf grown
-    longer-size = omega arith
+    unfolding longerBuffer
+    longer-size = simp changed (roomy-grown b run other (w .held) n h .room)
 
     longer-state : stateOf (longerBuffer n b) ≡ withLimits (grown n (b .limits)) (stateOf b)
-    unfolding stateOf longerBuffer atPlaces withLimitsOf withLimits
-    longer-state =
-        let g : goneOf (longerBuffer n b) ≡ goneOf b = whole-gone longer-whole ∙ sym (whole-gone w) in
-        λ k. record { phase = b .phase; gone = g k; limits = grown n (b .limits); level = readLevel (b .level); wants = b .wants }
+    unfolding longerBuffer
+    longer-state = state-placed _ _ _ _ b (whole-gone longer-whole ∙ sym (whole-gone w))
 
     module _ (run′ other′ : List ℕ) (lr : length run′ ≡ length run) (lo : length other′ ≡ length other) where
       longer-account : accountOf (longerBuffer n b) run′ other′ ≡ record { done = []; passed = []; rest = take n (shown (b .phase) run′ other′); state = stateOf (longerBuffer n b) }
-      unfolding longerBuffer atPlaces withLimitsOf
-      longer-account = account-whole (whole-lengths lr lo longer-whole)
+      unfolding longerBuffer
+      longer-account = simp changed at (account-whole {run = run′} {other = other′} (whole-lengths lr lo longer-whole))
 
       old-account : (L : List (Glyph ℕ)) → withRest L (sized n (accountOf b run other)) ≡ record { done = []; passed = []; rest = L; state = withLimits (grown n (b .limits)) (stateOf b) }
       unfolding withRest sized limiting stateOf
@@ -95,10 +81,10 @@ module _ {b : Buffer} {run other : List ℕ} (w : WholeInput b run other) where
           let m : ℕ = (longerBuffer n b) .limits .allocated in
           sym (beyond-glyphs m run run′ (w .held .whole) (sym lr) (sym (behind-further n m (glyphs run) (glyphs run′) longer-size d)))
 
-      pub other-beyond : drop n (placements other′) ≡ drop n (placements other) → wordsFrom ((longerBuffer n b) .limits .allocated) other′ ≡ wordsFrom ((longerBuffer n b) .limits .allocated) other
+      pub other-beyond : drop n (positionsIn other′) ≡ drop n (positionsIn other) → wordsFrom ((longerBuffer n b) .limits .allocated) other′ ≡ wordsFrom ((longerBuffer n b) .limits .allocated) other
       other-beyond d =
           let m : ℕ = (longerBuffer n b) .limits .allocated in
-          sym (beyond-placements m other other′ (whole-same run other (w .held .same) (w .held .whole)) (sym lo) (sym (behind-further n m (placements other) (placements other′) longer-size d)))
+          sym (beyond-positions m other other′ (whole-same run other (w .held .same) (w .held .whole)) (sym lo) (sym (behind-further n m (positionsIn other) (positionsIn other′) longer-size d)))
 
 -- ---- a verdict by the size
 module _ {capacity n : ℕ} {there short : Answer} {b : Buffer} {v : Verdict} {room : Room} (e : room ≡ roomFor capacity n (b .limits)) where
@@ -142,18 +128,18 @@ decided-lengthens {call} {b} {f} {s} {v} {m} {n} {there} {short} {t} {Ask} {Act}
 -- ---- push
 module _ (g c : ℕ) where
   on-whole-push : OnWhole (λ capacity a. push capacity g c a)
-  unfolding push refuse_when_else_
-  on-whole-push = record { refuses = λ capacity a h. rw h }
+  unfolding push
+  on-whole-push = record { refuses = λ capacity a h. simp (h, refusing) }
 
   module _ (capacity : ℕ) (a : Account ℕ) where
     push-placed : notWhole a ≡ false → hasPositions a ≡ true → push capacity g c a ≡ refused WrongPhase
-    unfolding push refuse_when_else_
-    push-placed h k = rw (h, k)
+    unfolding push
+    push-placed h k = simp (h, k, refusing)
 
     push-needs : notWhole a ≡ false → hasPositions a ≡ false → (n : ℕ) → len a ≡ n
         → push capacity g c a ≡ needing capacity (n + 1) a (accepted (withRest (a .rest ++ copies (blank c) (g ∷ [])) (sized (n + 1) a))) (accepted (failing a))
-    unfolding push refuse_when_else_
-    push-needs h k n e = rw (h, k, e)
+    unfolding push
+    push-needs h k n e = simp (h, k, e, refusing)
 
   module _ {b : Buffer} {run other : List ℕ} (w : WholeInput b run other) (p : positionsPhase (b .phase) ≡ false) where
     push-is : push (capacityOf (length run)) g c (accountOf b run other)
@@ -162,13 +148,12 @@ module _ (g c : ℕ) where
 
     module _ (h : roomFor (capacityOf (length run)) (b .len .0 + 1) (b .limits) ≡ Fits) (run′ : List ℕ) (e : glyphs run′ ≡ set (glyphs run) (b .len .0) (record { glyph = g; info = blank c })) where
       push-rest : take (b .len .0 + 1) (shown (b .phase) run′ other) ≡ (accountOf b run other) .rest ++ copies (blank c) (g ∷ [])
-      unfolding copies
       push-rest =
           let n : ℕ = b .len .0 in
           let x : Glyph ℕ = record { glyph = g; info = blank c } in
-          ap (take (n + 1)) (shown-plain (b .phase) run′ other p (w .clean) ∙ e)
+          rw copies-one (ap (take (n + 1)) (shown-glyphs (b .phase) run′ other p (w .clean) ∙ e)
           ∙ (rw add-one (take-suc-set (glyphs run) n x (omega (arith, size-within w (n + 1) h)))
-          ∙ ap (λ (l : List (Glyph ℕ)). l ++ (x ∷ [])) (sym (rest-is w ∙ ap (take n) (shown-plain (b .phase) run other p (w .clean)))))
+          ∙ ap (λ (l : List (Glyph ℕ)). l ++ (x ∷ [])) (sym (rest-is w ∙ ap (take n) (shown-glyphs (b .phase) run other p (w .clean))))))
 
       push-done : length run′ ≡ length run → MeetsIn (λ capacity a. push capacity g c a) b run other (reply (longerBuffer (b .len .0 + 1) b) Done) run′ other
       push-done lr =

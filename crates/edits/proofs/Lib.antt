@@ -27,7 +27,6 @@ pub mod OutCalls
 pub mod OutFlagCalls
 pub mod OutFlags
 pub mod OutMerges
-pub mod PairTurns
 pub mod Pairings
 pub mod Pairs
 pub mod Places
@@ -45,7 +44,6 @@ pub mod SiftedRuns
 pub mod Siftings
 pub mod SortCalls
 pub mod Sorts
-pub mod TurnParts
 pub mod WholeCalls
 pub mod WholeInputs
 pub mod WriteCalls

@@ -7,11 +7,11 @@ use lib.ListN.{length}
 use lib.Seq.{slice}
 use Rattle.records.specs.{Glyphs.Glyph, Glyphs.flagged, Ranges.clusters, Ranges.edit, View.glyphs}
 use Rattle.records.proofs.View.{glyphs-same}
-use Rattle.lists.specs.Contract.{exchanged}
-use Rattle.lists.specs.Verdicts.{Sided}
+use Rattle.lists.specs.inner.Held.{exchanged}
+use Rattle.lists.specs.inner.Verdicts.{Sided}
 use Rattle.lists.proofs.Decisions.{sided-first, sided-second}
 use Rattle.edits.specs.Flags.{interior, sought}
-use Rattle.edits.specs.Marks.{flaggedRun, flaggedPart, soughtOut, soughtIn, Flaggable, OutFlaggable, Flagged, Marked, OutMarked, OutFlagged}
+use Rattle.edits.specs.inner.Marks.{flaggedRun, flaggedPart, soughtOut, soughtIn, Flaggable, OutFlaggable, Flagged, Marked, OutMarked, OutFlagged}
 use Rattle.edits.proofs.FlagLaws.{interior-empty, sought-empty}
 
 module _ {interiorly : Bool} (level bits s e : ℕ) (l : List (Glyph ℕ)) where

@@ -4,16 +4,18 @@ use Prim.Native.Nat.{ℕ, _-_, _≤_, _<_}
 use native.Mathlib.Omega.{arith}
 use borrow.Author.Tests.{le-ltb, lt-ltb, ltb-false, eq-eqb, ne-eqb}
 use lib.{Dec.eqb, Dec.ltb, ListN.length, ListN.take, ListN.drop, Seq.slice}
-use Rattle.records.specs.{Phase, Plain, Output, Positions, Spoiled, InputPlace, Done, Limits, Glyphs.Glyph, Counters.capacityOf, Counters.costs, Ranges.clusters, View.glyphs, View.placements, View.wordsFrom}
+use Rattle.records.specs.{Phase, Plain, Output, Positions, Spoiled, InputPlace, Done, Limits, Glyphs.Glyph, Counters.capacityOf, Counters.costs, Ranges.clusters, View.glyphs, View.positionsIn, View.wordsFrom}
 use Rattle.records.proofs.View.{glyphs-same, whole-same, beyond-glyphs}
-use Rattle.lists.specs.declared.{Buffer.Buffer, Reply.Reply}
-use Rattle.lists.specs.{Account.readLevel, Account.Account, Account.State, Account.outputPhase, Account.spoiledPhase, Account.withLimits, Results.accepted, Results.Result, State.shown, State.goneOf, State.stateOf, State.accountOf, State.Held, States.reply, States.withLimitsOf}
+use Rattle.lists.proofs.Changed.{account-limits, limits-limits, own-limits, state-own, state-paid, state-level, paid-size}
+use Rattle.lists.proofs.Showing.{on-shown, gone-in}
+use Rattle.lists.specs.{declared.Buffer.Buffer, declared.Reply.Reply}
+use Rattle.lists.specs.{Account.readLevel, Account.Account, Account.State, Account.outputPhase, Account.spoiledPhase, Account.withLimits, Account.accepted, Account.Result, Contract.shown, Contract.goneOf, Contract.stateOf, Contract.accountOf, inner.Held.Held, inner.States.reply, inner.States.withLimitsOf}
 use Rattle.lists.proofs.Sides.{MeetsIn}
 use Rattle.lists.proofs.{Accounts.len-of, Calls.in-accepted, Accounts.gone-of}
-use Rattle.edits.specs.{Acts.Acts, Acts.Mergeful, Flags.interior, Flags.sought, Flags.flagInterior, Holding.holds, Holding.cut, Merging.merged, Merging.graphemesMerge, Merging.outsideInput, Plans.Mergeable, Plans.mergePlan, Plans.mergedRun, Plans.mergedTail}
+use Rattle.edits.specs.{inner.Acts.Acts, inner.Acts.Mergeful, Flags.interior, Flags.sought, Flags.flagInterior, inner.Holding.holds, inner.Holding.cut, Merging.merged, Merging.graphemesMerge, Merging.outsideInput, inner.Plans.Mergeable, inner.Plans.mergePlan, inner.Plans.mergedRun, inner.Plans.mergedTail}
 use Rattle.edits.proofs.MergeForms.{InputRange, InputFrom, MergedApart, MergedWithin}
 use Rattle.lists.proofs.Outputs.{goneIn, shown-output}
-use Rattle.lists.proofs.Inner.{held-paid}
+use Rattle.lists.proofs.Inner.{held-paid, limits-side}
 use Rattle.edits.proofs.MergeLaws.{mergeable, merged-within}
 use Rattle.edits.proofs.FlagLaws.{flagged-held, flagged-within, interior-behind}
 use Rattle.edits.proofs.Places.{paired-within, paired-flagged}
@@ -39,12 +41,12 @@ out-before Spoiled apart i l o h b n = let z : o ≡ 0 = n refl in omega arith
 
 within-done : (p : Phase) (apart : Bool) (o : ℕ) (run other : List ℕ) → (outputPhase p && apart) ≡ false → (outputPhase p ≡ false → o ≡ 0)
     → take o (cond apart (glyphs other) (glyphs run)) ≡ take o (shown p run other)
-unfolding shown
-within-done Plain apart o run other h n = none-taken o _ _ (n refl)
-within-done Output true o run other h n = absurd (false≢true (sym h))
-within-done Output false o run other h n = refl
-within-done Positions apart o run other h n = none-taken o _ _ (n refl)
-within-done Spoiled apart o run other h n = none-taken o _ _ (n refl)
+within-done p apart o run other h n = by (outputPhase p) apart refl h
+  where
+    by : (x y : Bool) → outputPhase p ≡ x → (x && y) ≡ false → take o (cond y (glyphs other) (glyphs run)) ≡ take o (shown p run other)
+    by true true e k = absurd (false≢true (sym k))
+    by true false e k = ap (take o) (sym (shown-output p run other e))
+    by false y e k = none-taken o _ _ (n e)
 
 both-left : (x y : Bool) → (x && y) ≡ true → x ≡ true
 both-left true y h = refl
@@ -56,8 +58,8 @@ both-right false y h = absurd (false≢true h)
 
 module _ (b : Buffer) (l : Limits) (run other : List ℕ) where
   account-held : accountOf (withLimitsOf l b) run other ≡ holds (shown (b .phase) run other) (cond (b .«have_separate_output») (glyphs other) (glyphs run)) (goneOf b) (b .idx .0) (b .len .0) (b .«out_len» .0) (withLimits l (stateOf b))
-  unfolding accountOf withLimitsOf holds withLimits stateOf goneOf
-  account-held = refl
+  unfolding holds
+  account-held = account-limits l b run other
 
   pub account-apart : (outputPhase (b .phase) && b .«have_separate_output») ≡ true
       → accountOf (withLimitsOf l b) run other ≡ holds (glyphs run) (glyphs other) (goneOf b) (b .idx .0) (b .len .0) (b .«out_len» .0) (withLimits l (stateOf b))
@@ -77,24 +79,27 @@ module _ (b : Buffer) (l : Limits) (run other : List ℕ) where
       → accountOf (withLimitsOf l b) run other ≡ holds (shown (b .phase) run other) (shown (b .phase) run other) (goneOf b) (b .idx .0) (b .len .0) (b .«out_len» .0) (withLimits l (stateOf b))
   account-within h n = account-held ∙ held-done _ _ _ (within-done (b .phase) (b .«have_separate_output») (b .«out_len» .0) run other h n)
 
+-- the same under its own limits
+module _ (b : Buffer) (run other : List ℕ) where
+  pub own-apart : (outputPhase (b .phase) && b .«have_separate_output») ≡ true → accountOf b run other ≡ holds (glyphs run) (glyphs other) (goneOf b) (b .idx .0) (b .len .0) (b .«out_len» .0) (stateOf b)
+  own-apart h = rw (own-limits b, state-own b) at (account-apart b (b .limits) run other h)
+
+  pub own-within : (outputPhase (b .phase) && b .«have_separate_output») ≡ false → (outputPhase (b .phase) ≡ false → b .«out_len» .0 ≡ 0)
+      → accountOf b run other ≡ holds (shown (b .phase) run other) (shown (b .phase) run other) (goneOf b) (b .idx .0) (b .len .0) (b .«out_len» .0) (stateOf b)
+  own-within h n = rw (own-limits b, state-own b) at (account-within b (b .limits) run other h n)
+
 -- ---- in each phase that has lists
 module _ (run run′ other : List ℕ) {gone idx len outLen s e : ℕ} (w : InputFrom gone idx len s) (low : outLen ≤ gone) where
   shown-merged : (p : Phase) → spoiledPhase p ≡ false → Mergeable (glyphs run) (glyphs run) len outLen s e
       → glyphs run′ ≡ mergedRun (mergePlan idx s e (cut len (glyphs run))) (mergedTail (mergePlan idx s e (cut len (glyphs run))) outLen (glyphs run)) → MergedWithin gone idx len outLen s e (shown p run other) (shown p run′ other)
-  unfolding shown
-  shown-merged Plain h v er = merged-within v w low er
-  shown-merged Output h v er = merged-within v w low er
-  shown-merged Positions h v er = paired-within v (placements other) w low er
-  shown-merged Spoiled h v er = absurd (false≢true (sym h))
+  shown-merged p h v er = on-shown (λ x. MergedWithin gone idx len outLen s e (x run other) (x run′ other)) p h (merged-within v w low er) (paired-within v (positionsIn other) w low er)
 
   shown-flagged : (p : Phase) → spoiledPhase p ≡ false → InputRange (glyphs run) (glyphs run) len outLen s e → (bits : ℕ) (k : State) (level : ℕ) → 2 ≤ e - s → k .level ≡ level
       → glyphs run′ ≡ interior level (sought level (slice s e (clusters (glyphs run)))) bits s e (glyphs run)
       → holds (shown p run′ other) (shown p run′ other) gone idx len outLen k ≡ flagInterior bits (s - gone) (e - gone) (holds (shown p run other) (shown p run other) gone idx len outLen k)
-  unfolding shown
-  shown-flagged Plain h v bits k level two el er = flagged-within v w low bits k level two el er
-  shown-flagged Output h v bits k level two el er = flagged-within v w low bits k level two el er
-  shown-flagged Positions h v bits k level two el er = paired-flagged v (placements other) w low bits k level two el er
-  shown-flagged Spoiled h v bits k level two el er = absurd (false≢true (sym h))
+  shown-flagged p h v bits k level two el er =
+      on-shown (λ x. holds (x run′ other) (x run′ other) gone idx len outLen k ≡ flagInterior bits (s - gone) (e - gone) (holds (x run other) (x run other) gone idx len outLen k)) p h
+      (flagged-within v w low bits k level two el er) (paired-flagged v (positionsIn other) w low bits k level two el er)
 
 -- ---- from the glyphs to what a function leaves
 module _ {b : Buffer} {run other : List ℕ} (v : Held b run other) where
@@ -102,19 +107,18 @@ module _ {b : Buffer} {run other : List ℕ} (v : Held b run other) where
   pub acts-paid : (h : Account ℕ → Account ℕ) (n : ℕ) {l : Limits} {r : Buffer} {run′ other′ : List ℕ} → l ≡ costs n (b .limits) → r ≡ withLimitsOf l b → length run′ ≡ length run → length other′ ≡ length other
       → drop (b .len .0) (glyphs run′) ≡ drop (b .len .0) (glyphs run) → drop (b .«out_len» .0) (glyphs other′) ≡ drop (b .«out_len» .0) (glyphs other)
       → accountOf (withLimitsOf (costs n (b .limits)) b) run′ other′ ≡ h (accountOf b run other) → (Acts h b run other r run′ other′) × (r ≡ withLimitsOf (r .limits) b)
-  unfolding withLimitsOf costs
   acts-paid h n {l} {r} {run′} {other′} el er lr lo dr d e =
       let a : ℕ = b .limits .allocated in
       rw (er, el) (
         record {
           is = e;
-          size = refl;
-          side = refl;
+          size = paid-size b n;
+          side = limits-side (costs n (b .limits)) b;
           run-beyond = sym (beyond-glyphs a run run′ (v .whole) (sym lr) (sym (behind-further (b .len .0) a (glyphs run) (glyphs run′) (v .len-in) dr)));
           other-beyond = sym (beyond-glyphs a other other′ (whole-same run other (v .same) (v .whole)) (sym lo) (sym (behind-further (b .«out_len» .0) a (glyphs other) (glyphs other′) (v .out-in) d)));
           held = held-paid b run other v n;
         },
-        refl,
+        simp limits-limits,
       )
 
   -- the same without a cost
@@ -134,13 +138,11 @@ module _ {b : Buffer} {run other : List ℕ} (v : Held b run other) where
 
   pub acts-kept : (h : Account ℕ → Account ℕ) {l : Limits} {run′ : List ℕ} → b .limits ≡ l → length run′ ≡ length run → drop (b .len .0) (glyphs run′) ≡ drop (b .len .0) (glyphs run)
       → accountOf b run′ other ≡ h (accountOf b run other) → Acts h b run other (withLimitsOf l b) run′ other
-  unfolding withLimitsOf
-  acts-kept h {l} {run′} el lr dr e = subst (λ (k : Limits). Acts h b run other (withLimitsOf k b) run′ other) el (acts-both h lr refl dr refl e)
+  acts-kept h el lr dr e = rw (← el, own-limits b) (acts-both h lr refl dr refl e)
 
   pub acts-free : (h : Account ℕ → Account ℕ) {run′ : List ℕ} → length run′ ≡ length run → drop (b .len .0) (glyphs run′) ≡ drop (b .len .0) (glyphs run)
       → accountOf b run′ other ≡ h (accountOf b run other) → (Acts h b run other b run′ other) × (b ≡ withLimitsOf (b .limits) b)
-  unfolding withLimitsOf
-  acts-free h lr dr e = (acts-both h lr refl dr refl e, refl)
+  acts-free h lr dr e = (acts-both h lr refl dr refl e, sym (own-limits b))
 
 -- a call that was accepted leaves what was done
 pub in-acts : {call : ℕ → Account ℕ → Result ℕ} {h : Account ℕ → Account ℕ} {b f : Buffer} {run other run′ other′ : List ℕ} {r : Reply} → Acts h b run other f run′ other′
@@ -154,8 +156,7 @@ in-acts {call} {h} {b} {f} {run} {other} {run′} {other′} u e er =
 -- ---- what the workers ask for, and what they leave
 module _ {b : Buffer} {run other : List ℕ} {s e : ℕ} (v : Mergeful b s e run other) where
   pub from-gone : InputFrom (goneOf b) (b .idx .0) (b .len .0) s
-  unfolding goneOf
-  from-gone = record { cursor = gone-before (b .phase) (b .idx .0) (b .len .0) (v .whole); inside = v .held .idx-in; start = v .start }
+  from-gone = record { cursor = rw (gone-in b) (gone-before (b .phase) (b .idx .0) (b .len .0) (v .whole)); inside = v .held .idx-in; start = v .start }
 
   pub range-apart : InputRange (glyphs run) (glyphs other) (b .len .0) (b .«out_len» .0) s e
   range-apart =
@@ -172,25 +173,19 @@ module _ {b : Buffer} {run other : List ℕ} {s e : ℕ} (v : Mergeful b s e run
   ready-within two = mergeable range-within (omega arith)
 
   pub out-low : (outputPhase (b .phase) && b .«have_separate_output») ≡ false → b .«out_len» .0 ≤ goneOf b
-  unfolding goneOf
-  out-low h = out-before (b .phase) (b .«have_separate_output») (b .idx .0) (b .len .0) (b .«out_len» .0) h (v .held .behind) (v .held .none)
+  out-low h = rw (gone-in b) (out-before (b .phase) (b .«have_separate_output») (b .idx .0) (b .len .0) (b .«out_len» .0) h (v .held .behind) (v .held .none))
 
   module _ (run′ : List ℕ) where
     pub apart-is : (other′ : List ℕ) → (outputPhase (b .phase) && b .«have_separate_output») ≡ true → MergedApart (goneOf b) (b .idx .0) (b .len .0) (b .«out_len» .0) s e (glyphs run) (glyphs other) (glyphs run′) (glyphs other′)
         → accountOf (withLimitsOf (costs (e - s) (b .limits)) b) run′ other′ ≡ merged (s - goneOf b) (e - goneOf b) (accountOf b run other)
-    unfolding withLimitsOf withLimits stateOf
-    apart-is other′ h m =
-        account-apart b (costs (e - s) (b .limits)) run′ other′ h
-        ∙ (m .account (stateOf b) ∙ ap (merged (s - goneOf b) (e - goneOf b)) (sym (account-apart b (b .limits) run other h)))
+    apart-is other′ h m = rw (account-apart b (costs (e - s) (b .limits)) run′ other′ h, own-apart b run other h, state-paid b (e - s)) (m .account (stateOf b))
 
     module _ (h : (outputPhase (b .phase) && b .«have_separate_output») ≡ false) (two : 2 ≤ e - s) (eg : glyphs run′ ≡ mergedRun (mergePlan (b .idx .0) s e (cut (b .len .0) (glyphs run))) (mergedTail (mergePlan (b .idx .0) s e (cut (b .len .0) (glyphs run))) (b .«out_len» .0) (glyphs run))) where
       pub within-is : accountOf (withLimitsOf (costs (e - s) (b .limits)) b) run′ other ≡ merged (s - goneOf b) (e - goneOf b) (accountOf b run other)
-      unfolding withLimitsOf withLimits stateOf
       within-is =
           let m : MergedWithin (goneOf b) (b .idx .0) (b .len .0) (b .«out_len» .0) s e (shown (b .phase) run other) (shown (b .phase) run′ other) =
           shown-merged run run′ other from-gone (out-low h) (b .phase) (v .whole) (ready-within two) eg in
-          account-within b (costs (e - s) (b .limits)) run′ other h (v .held .none)
-          ∙ (m .account (stateOf b) ∙ ap (merged (s - goneOf b) (e - goneOf b)) (sym (account-within b (b .limits) run other h (v .held .none))))
+          rw (account-within b (costs (e - s) (b .limits)) run′ other h (v .held .none), own-within b run other h (v .held .none), state-paid b (e - s)) (m .account (stateOf b))
 
   pub width : e - goneOf b - (s - goneOf b) ≡ e - s
   width = omega (arith, v .start, v .order)
@@ -200,17 +195,16 @@ module _ {b : Buffer} {run other : List ℕ} {s e : ℕ} (v : Mergeful b s e run
 
   module _ (bits : ℕ) (run′ : List ℕ) (two : 2 ≤ e - s) (eg : glyphs run′ ≡ interior (readLevel (b .level)) (sought (readLevel (b .level)) (slice s e (clusters (glyphs run)))) bits s e (glyphs run)) where
     pub flag-is : accountOf b run′ other ≡ flagInterior bits (s - goneOf b) (e - goneOf b) (accountOf b run other)
-    unfolding withLimitsOf withLimits stateOf
     flag-is = by-place (outputPhase (b .phase) && b .«have_separate_output») refl
       where
         by-place : (x : Bool) → (outputPhase (b .phase) && b .«have_separate_output») ≡ x → accountOf b run′ other ≡ flagInterior bits (s - goneOf b) (e - goneOf b) (accountOf b run other)
         by-place true h =
-            account-apart b (b .limits) run′ other h
-            ∙ (flagged-held range-apart from-gone bits (stateOf b) (readLevel (b .level)) (glyphs other) two refl eg refl ∙ ap (flagInterior bits (s - goneOf b) (e - goneOf b)) (sym (account-apart b (b .limits) run other h)))
+            own-apart b run′ other h
+            ∙ (flagged-held range-apart from-gone bits (stateOf b) (readLevel (b .level)) (glyphs other) two (state-level b) eg refl ∙ ap (flagInterior bits (s - goneOf b) (e - goneOf b)) (sym (own-apart b run other h)))
         by-place false h =
-            account-within b (b .limits) run′ other h (v .held .none)
-            ∙ (shown-flagged run run′ other from-gone (out-low h) (b .phase) (v .whole) range-within bits (stateOf b) (readLevel (b .level)) two refl eg
-            ∙ ap (flagInterior bits (s - goneOf b) (e - goneOf b)) (sym (account-within b (b .limits) run other h (v .held .none))))
+            own-within b run′ other h (v .held .none)
+            ∙ (shown-flagged run run′ other from-gone (out-low h) (b .phase) (v .whole) range-within bits (stateOf b) (readLevel (b .level)) two (state-level b) eg
+            ∙ ap (flagInterior bits (s - goneOf b) (e - goneOf b)) (sym (own-within b run other h (v .held .none))))
 
     pub flag-behind : drop (b .len .0) (glyphs run′) ≡ drop (b .len .0) (glyphs run)
     flag-behind = rw eg (interior-behind (readLevel (b .level)) (sought (readLevel (b .level)) (slice s e (clusters (glyphs run)))) bits (b .len .0) s e (glyphs run) (v .order) (flag-room two .1) (v .end))
@@ -218,8 +212,7 @@ module _ {b : Buffer} {run other : List ℕ} {s e : ℕ} (v : Mergeful b s e run
 -- ---- the tests of a call
 module _ (b : Buffer) where
   pub gone-at : {x : ℕ} (p : Phase) → b .phase ≡ p → x ≡ goneIn p (b .idx .0) (b .len .0) → x ≡ goneOf b
-  unfolding goneOf
-  gone-at p h e = e ∙ ap (λ (q : Phase). goneIn q (b .idx .0) (b .len .0)) (sym h)
+  gone-at p h e = rw (gone-in b, h) e
 
   module _ (s e : ℕ) where
     pub outside-order : e < s → true ≡ (ltb e s || (ltb (b .len .0) e || ltb s (goneOf b)))

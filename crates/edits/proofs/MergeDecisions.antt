@@ -7,15 +7,17 @@ use borrow.Author.Tests.{le-leb, lt-leb, le-ltb, lt-ltb, ltb-false}
 use lib.{Dec.ltb, ListN.length, ListN.drop, Seq.slice}
 use Rattle.records.specs.{InputPlace, Contradiction, WrongPhase, OutOfRange, Done, No, Limits, Counters.costs, Ranges.clusters, View.glyphs}
 use Rattle.records.proofs.View.{glyphs-same}
-use Rattle.lists.specs.declared.{Buffer.Buffer, Verdict.Verdict}
-use Rattle.lists.specs.{Account.Account, Account.readLevel, Account.spoiledPhase, Account.isSpoiled, Results.refused, Results.accepted, Results.refuse_when_else_, State.goneOf, State.accountOf, State.sound, State.Soundness, States.withLimitsOf, Verdicts.Leaves, Verdicts.settled, Verdicts.Sided, Verdicts.Decided}
+use Rattle.lists.specs.{declared.Buffer.Buffer, declared.Verdict.Verdict}
+use Rattle.lists.specs.{Account.Account, Account.readLevel, Account.spoiledPhase, Account.isSpoiled, Account.refused, Account.accepted, Contract.goneOf, Contract.accountOf, Contract.sound, inner.Held.Soundness, inner.States.withLimitsOf, inner.Verdicts.Leaves, inner.Verdicts.settled, inner.Verdicts.Sided, inner.Verdicts.Decided}
 use Rattle.lists.proofs.{Accounts.spoiled-of, Accounts.level-of, Accounts.gone-of, SoundLaws.sound-held}
 use Rattle.lists.proofs.Decisions.{near-limits, leaves-as, decided-unsound, decided-refused, decided-does}
 use Rattle.lists.proofs.SoundLaws.{soundness}
+use Rattle.lists.proofs.Refusing.{refusing}
 use Rattle.records.proofs.Tests.{tested}
-use Rattle.edits.specs.{Acts.Acts, Acts.Mergeful, Charges.running, Charges.MergesRun, Flags.interior, Flags.sought, Merging.merge, Merging.merged, Merging.mergeInput, Merging.outsideInput, Merging.clustersMerge, Merging.graphemesMerge, Plans.WrittenApart, Plans.WrittenWithin}
-use Rattle.edits.specs.MergeActs.{mergeLimits, liesApart, MergeRoom, Merges, MergesInput}
+use Rattle.edits.specs.{inner.Acts.Acts, inner.Acts.Mergeful, inner.Charges.running, inner.Charges.MergesRun, Flags.interior, Flags.sought, Merging.merge, Merging.merged, Merging.mergeInput, Merging.outsideInput, Merging.clustersMerge, Merging.graphemesMerge, inner.Plans.WrittenApart, inner.Plans.WrittenWithin}
+use Rattle.edits.specs.inner.MergeActs.{mergeLimits, liesApart, MergeRoom, Merges, MergesInput}
 use Rattle.edits.proofs.{Chaining.acts-as, MergeLaws.merged-apart, MergeLaws.merged-within, WholeInputs.whole-gone}
+use Rattle.edits.proofs.Charging.{limits-running}
 use Rattle.edits.proofs.MergeCalls.{acts-paid, acts-kept, in-acts, from-gone, ready-apart, apart-is, ready-within, out-low, within-is, width, flag-is, flag-behind, outside-of, in-mergeful, neither-left}
 
 -- ---- what a merge costs
@@ -101,14 +103,13 @@ room-of {b} {s} {e} {run} {other} v = record { order = v .order; end = v .end; f
 
 -- of a whole run
 pub run-merges : {merges : Bool} {level n s e : ℕ} {run other run′ other′ : List ℕ} → Sided false (Merges false merges level 0 n 0 s e) run other run′ other′ → MergeRoom n 0 s e run other → MergesRun merges level n s e run other run′ other′
-unfolding withLimitsOf
 run-merges {merges} {level} {n} {s} {e} {run} {other} {run′} {other′} w m = record {
   is = λ l. record {
     acts = λ b v.
         let y = running level n l b in
         let gone : goneOf y ≡ 0 = whole-gone v in
         let u : Acts (merge merges (s - goneOf y) (e - goneOf y)) y run other (withLimitsOf (mergeLimits merges (e - s) l) y) run′ other′ = w .first refl .acts y (rw (v .plain)) (record { held = v .held; whole = v .clean; start = omega (arith, gone); order = m .order; end = m .end }) in
-        acts-as u (ap (λ (k : ℕ). merge merges (s - k) (e - k) (accountOf y run other)) gone ∙ rw (sub-zero s, sub-zero e));
+        acts-as (rw (limits-running level n l (mergeLimits merges (e - s) l) b) at u) (ap (λ (k : ℕ). merge merges (s - k) (e - k) (accountOf y run other)) gone ∙ rw (sub-zero s, sub-zero e));
   };
 }
 
@@ -119,16 +120,16 @@ leaves-paid b merges n el ex w = leaves-as (ex ∙ ap (λ (y : Limits). withLimi
 -- ---- 11 and 13
 module _ (at : ℕ → Bool) (s e : InputPlace) (a : Account ℕ) where
   input-spoiled : isSpoiled a ≡ true → mergeInput at s e a ≡ refused WrongPhase
-  unfolding mergeInput refuse_when_else_
-  input-spoiled h = rw h
+  unfolding mergeInput
+  input-spoiled h = simp (h, refusing)
 
   input-outside : isSpoiled a ≡ false → outsideInput s e a ≡ true → mergeInput at s e a ≡ refused OutOfRange
-  unfolding mergeInput refuse_when_else_
-  input-outside h k = rw (h, k)
+  unfolding mergeInput
+  input-outside h k = simp (h, k, refusing)
 
   input-merges : isSpoiled a ≡ false → outsideInput s e a ≡ false → mergeInput at s e a ≡ accepted (merge (at (a .state .level)) (s .0 - a .state .gone) (e .0 - a .state .gone) a)
-  unfolding mergeInput refuse_when_else_
-  input-merges h k = rw (h, k)
+  unfolding mergeInput
+  input-merges h k = simp (h, k, refusing)
 
 pub outside-ordered : {b : Buffer} {f g : List ℕ} {x t : Bool} {s e : ℕ} → Soundness b f g x → t ≡ (ltb e s || (ltb (b .len .0) e || ltb s (goneOf b))) → t ≡ false → s ≤ e
 outside-ordered {b} {f} {g} {x} {t} {s} {e} w et h = ltb-false e s (neither-left (ltb e s) _ (sym et ∙ h))

@@ -1,37 +1,17 @@
 -- A merge of each grapheme: no merge changes a key, so the groups of the rest stay.
 use mathlib.Core.{Path._≡_, Path.refl, Path.ap, Path.ap₂, Path.sym, Path._∙_, Bool.Bool, Bool.true, Bool.false, Bool.cond, Bool._&&_, Bool._||_, List.List, List.[], List._∷_, List._++_, List.map}
-use Prim.Native.Nat.{ℕ, _+_, _-_, _*_, _/_, _%_, _≤_, _<_}
+use Prim.Native.Nat.{ℕ, _+_, _-_, _≤_, _<_}
 use native.Mathlib.Omega.{arith}
-use lib.{Dec.eqb, Dec.ltb, ListN.take, ListN.drop, ListN.length, Seq.slice, Seq.drop-append-seam}
-use Rattle.records.specs.{Limits, Plain, WrongPhase, BadOperand, Glyphs.Glyph, Glyphs.Info, Glyphs.withMask, Glyphs.withCluster, Glyphs.setCluster, Glyphs.flagged, Glyphs.flaggedUnless, Glyphs.key, Ranges.infos, Ranges.clusters, Ranges.edit, Ranges.is, Ranges.isnt, Ranges.least, Ranges.first, Ranges.last, Ranges.heads, Ranges.tails, View.glyphs}
+use lib.{Dec.ltb, ListN.take, ListN.drop, ListN.length, Seq.slice, Seq.drop-append-seam}
+use Rattle.records.specs.{Limits, Plain, WrongPhase, BadOperand, Glyphs.Glyph, Glyphs.Info, Glyphs.setCluster, Glyphs.flagged, Glyphs.flaggedUnless, Glyphs.key, Ranges.infos, Ranges.clusters, Ranges.edit, Ranges.is, Ranges.isnt, Ranges.least, Ranges.firstCluster, Ranges.lastCluster, Ranges.heads, Ranges.tails, View.glyphs}
 use Rattle.records.proofs.View.{glyphs-same}
-use Rattle.lists.specs.declared.{Buffer.Buffer, Verdict.Verdict}
-use Rattle.lists.specs.{Account.readLevel, Account.Account, Account.input, Account.withInput, Account.withDone, Account.paying, Account.limiting, Results.refused, Results.accepted, Results.refuse_when_else_, State.shown, State.accountOf}
+use Rattle.records.proofs.Apart.{key-set, key-flagged, key-unless}
+use Rattle.lists.specs.{declared.Buffer.Buffer, declared.Verdict.Verdict}
+use Rattle.lists.specs.{Account.readLevel, Account.Account, Account.input, Account.withInput, Account.withDone, Account.paying, Account.limiting, Account.refused, Account.accepted, Contract.shown, Contract.accountOf}
 use Rattle.lists.proofs.{Accounts.level-of, Infos.words-drop, Infos.words-edit}
-use Rattle.edits.specs.{Acts.Acts, Charges.leftWith, Charges.DecidedBy, Charges.running, Charges.MergesRun, Charges.MergesEach, Charges.TakesKeyed, Flags.interior, Flags.sought, Flags.flagInterior, Groups.sizes, Groups.continues, Groups.mergedEach, Groups.formClusters, Merging.merge, Merging.merged, Merging.mergeStart, Merging.mergeEnd, Merging.graphemesMerge, MergeActs.mergeLimits, MergeActs.MergeRoom, WholeRun.notWhole, Wholes.WholeInput, Wholes.RunRoom}
+use Rattle.lists.proofs.Refusing.{refusing}
+use Rattle.edits.specs.{inner.Acts.Acts, inner.Charges.leftWith, inner.Charges.DecidedBy, inner.Charges.running, inner.Charges.MergesRun, inner.Charges.MergesEach, inner.Charges.TakesKeyed, Flags.interior, Flags.sought, Flags.flagInterior, Groups.groupSizes, Groups.continues, Groups.mergedEach, Groups.formClusters, Merging.merge, Merging.merged, Merging.mergeStart, Merging.mergeEnd, Merging.graphemesMerge, inner.MergeActs.mergeLimits, inner.MergeActs.MergeRoom, WholeRun.notWhole, inner.Wholes.WholeInput, inner.Wholes.RunRoom}
 use Rattle.edits.proofs.{Chaining.acts-as, Chaining.acts-then, Charging.OnKeyed, Charging.charges-acts, Charging.settles-left, Charging.keyed-decided, Charging.whole-after, MergeCalls.in-acts, MergeLaws.merge-order, WholeCalls.whole-room, WholeCalls.room-lengths, WholeInputs.account-whole, WholeInputs.not-not-whole, GroupLaws.Group, GroupLaws.no-group, GroupLaws.grapheme-group, GroupLaws.graphemes-same}
-
--- ---- the changes that leave a key alone
-module _ (slot mask : ℕ) where
-  key-set : (c m : ℕ) (i : Info) → key slot mask (setCluster c m i) ≡ key slot mask i
-  unfolding key setCluster withCluster withMask
-  key-set c m i = pick (eqb (i .cluster) c)
-    where
-      pick : (b : Bool) → key slot mask (cond b i (withCluster c (withMask (i .mask / 8 * 8 + m % 8) i))) ≡ key slot mask i
-      pick true = refl
-      pick false = refl
-
-  key-flagged : (bits : ℕ) (i : Info) → key slot mask (flagged bits i) ≡ key slot mask i
-  unfolding key flagged withMask
-  key-flagged bits i = refl
-
-  key-unless : (c bits : ℕ) (i : Info) → key slot mask (flaggedUnless c bits i) ≡ key slot mask i
-  unfolding key flaggedUnless flagged withMask
-  key-unless c bits i = pick (eqb (i .cluster) c)
-    where
-      pick : (b : Bool) → key slot mask (cond b i (flagged bits i)) ≡ key slot mask i
-      pick true = refl
-      pick false = refl
 
 -- ---- the edits
 module _ {G : Type 0} (slot mask : ℕ) where
@@ -42,7 +22,7 @@ module _ {G : Type 0} (slot mask : ℕ) where
   unfolding interior
   keys-interior level m bits i j l o =
       let r : List ℕ = slice i j (clusters l) in
-      pick (is 2 level || (isnt m (first r) && isnt m (last r))) (is m (first r)) (tails (isnt m) r) (heads (isnt m) r)
+      pick (is 2 level || (isnt m (firstCluster r) && isnt m (lastCluster r))) (is m (firstCluster r)) (tails (isnt m) r) (heads (isnt m) r)
     where
       pick : (b c : Bool) (t h : ℕ) → keys (cond b (edit i j (flaggedUnless m bits) l) (cond c (edit (j - t) j (flagged bits) l) (edit i (i + h) (flagged bits) l))) ≡ keys l
       pick true c t h = words-edit (key slot mask) (flaggedUnless m bits) (key-unless slot mask m bits) i j l o
@@ -91,8 +71,8 @@ module _ {G : Type 0} (slot mask : ℕ) where
 pub record Each (merges : Bool) (slot mask level n : ℕ) (l₀ : Limits) (run₀ other₀ : List ℕ) (l : Limits) (run other : List ℕ) (s : ℕ) (b : Buffer) : Type 0 where
   pub whole : WholeInput (running level n l b) run other
   pub acts : Acts (λ a. accountOf (running level n l b) run other) (running level n l₀ b) run₀ other₀ (running level n l b) run other
-  pub is : mergedEach merges (sizes (continues slot mask) (drop s (infos ((accountOf (running level n l b) run other) .rest)))) s (accountOf (running level n l b) run other)
-      ≡ mergedEach merges (sizes (continues slot mask) (infos ((accountOf (running level n l₀ b) run₀ other₀) .rest))) 0 (accountOf (running level n l₀ b) run₀ other₀)
+  pub is : mergedEach merges (groupSizes (continues slot mask) (drop s (infos ((accountOf (running level n l b) run other) .rest)))) s (accountOf (running level n l b) run other)
+      ≡ mergedEach merges (groupSizes (continues slot mask) (infos ((accountOf (running level n l₀ b) run₀ other₀) .rest))) 0 (accountOf (running level n l₀ b) run₀ other₀)
 
 -- on every buffer whose run lies here
 pub record EachOf (merges : Bool) (slot mask level n : ℕ) (l₀ : Limits) (run₀ other₀ : List ℕ) (l : Limits) (run other : List ℕ) (s : ℕ) : Type 0 where
@@ -126,24 +106,24 @@ module _ {merges : Bool} {slot mask level n : ℕ} {l₀ l : Limits} {run₀ oth
       let after : s < e = g .after in
       let order : s ≤ e = omega arith in
       let on : s + (e - s) ≡ e = omega arith in
-      let groups : sizes P (drop s (infos (a .rest))) ≡ (e - s) ∷ sizes P (drop e (infos (a .rest))) = rw rest-is (g .is) in
-      let later : sizes P (drop e (infos (a′ .rest))) ≡ sizes P (drop e (infos (a .rest))) =
+      let groups : groupSizes P (drop s (infos (a .rest))) ≡ (e - s) ∷ groupSizes P (drop e (infos (a .rest))) = rw rest-is (g .is) in
+      let later : groupSizes P (drop e (infos (a′ .rest))) ≡ groupSizes P (drop e (infos (a .rest))) =
       graphemes-same slot mask e (infos (a′ .rest)) (infos (a .rest)) (ap (λ (y : Account ℕ). map (key slot mask) (infos (y .rest))) (u .is) ∙ keys-merge slot mask merges s e a order) in
-      let turned : mergedEach merges (sizes P (drop s (infos (a .rest)))) s a ≡ mergedEach merges (sizes P (drop e (infos (a .rest)))) (s + (e - s)) (merge merges s (s + (e - s)) a) =
-      ap (λ (ns : List ℕ). mergedEach merges ns s a) groups ∙ one-merge merges (e - s) (sizes P (drop e (infos (a .rest)))) s a in
+      let turned : mergedEach merges (groupSizes P (drop s (infos (a .rest)))) s a ≡ mergedEach merges (groupSizes P (drop e (infos (a .rest)))) (s + (e - s)) (merge merges s (s + (e - s)) a) =
+      ap (λ (ns : List ℕ). mergedEach merges ns s a) groups ∙ one-merge merges (e - s) (groupSizes P (drop e (infos (a .rest)))) s a in
       record {
         whole = whole-after b (v .whole) u lr lo;
         acts = acts-as (acts-then (v .acts) mr mo u) (sym (u .is));
         is = ap₂ (λ (ns : List ℕ) (y : Account ℕ). mergedEach merges ns e y) later (u .is)
-            ∙ (ap (λ (m : ℕ). mergedEach merges (sizes P (drop e (infos (a .rest)))) m (merge merges s m a)) (sym on)
+            ∙ (ap (λ (m : ℕ). mergedEach merges (groupSizes P (drop e (infos (a .rest)))) m (merge merges s m a)) (sym on)
             ∙ (sym turned ∙ v .is));
       }
 
-  all-done : s ≡ n → Acts (λ a. mergedEach merges (sizes (continues slot mask) (infos (a .rest))) 0 a) (running level n l₀ b) run₀ other₀ (running level n l b) run other
+  all-done : s ≡ n → Acts (λ a. mergedEach merges (groupSizes (continues slot mask) (infos (a .rest))) 0 a) (running level n l₀ b) run₀ other₀ (running level n l b) run other
   all-done end =
       let P : Info → Info → Bool = continues slot mask in
       let a : Account ℕ = accountOf (running level n l b) run other in
-      let none : sizes P (drop s (infos (a .rest))) ≡ [] = rw (rest-is, end) (no-group (b .phase) run other (v .whole .clean) fits P) in
+      let none : groupSizes P (drop s (infos (a .rest))) ≡ [] = rw (rest-is, end) (no-group (b .phase) run other (v .whole .clean) fits P) in
       acts-as (v .acts) (sym (ap (λ (ns : List ℕ). mergedEach merges ns s a) none ∙ no-merge merges s a) ∙ v .is)
 
 module _ {merges : Bool} {slot mask level n : ℕ} {l₀ : Limits} {run₀ other₀ : List ℕ} where
@@ -185,16 +165,16 @@ module _ {merges : Bool} {slot mask level n : ℕ} {l₀ : Limits} {run₀ other
 -- ---- call 22
 module _ (slot mask : ℕ) (a : Account ℕ) where
   form-not-whole : notWhole a ≡ true → formClusters slot mask a ≡ refused WrongPhase
-  unfolding formClusters refuse_when_else_
-  form-not-whole h = rw h
+  unfolding formClusters
+  form-not-whole h = simp (h, refusing)
 
   form-bad : notWhole a ≡ false → ltb 1 slot ≡ true → formClusters slot mask a ≡ refused BadOperand
-  unfolding formClusters refuse_when_else_
-  form-bad h k = rw (h, k)
+  unfolding formClusters
+  form-bad h k = simp (h, k, refusing)
 
-  forms : notWhole a ≡ false → ltb 1 slot ≡ false → formClusters slot mask a ≡ accepted (mergedEach (graphemesMerge (a .state .level)) (sizes (continues slot mask) (infos (a .rest))) 0 a)
-  unfolding formClusters refuse_when_else_
-  forms h k = rw (h, k)
+  forms : notWhole a ≡ false → ltb 1 slot ≡ false → formClusters slot mask a ≡ accepted (mergedEach (graphemesMerge (a .state .level)) (groupSizes (continues slot mask) (infos (a .rest))) 0 a)
+  unfolding formClusters
+  forms h k = simp (h, k, refusing)
 
 module _ {slot : ℕ} (mask : ℕ) {b : Buffer} {merging : Bool} (em : merging ≡ graphemesMerge (readLevel (b .level))) where
   form-on : OnKeyed Limits leftWith (λ capacity a. formClusters slot mask a) slot b (MergesEach merging (b .level) (b .len .0) slot mask (b .limits))
@@ -204,7 +184,7 @@ module _ {slot : ℕ} (mask : ℕ) {b : Buffer} {merging : Bool} (em : merging �
     done = λ l run other run′ other′ w k lr lo c.
         in-acts (charges-acts w w (c .is))
         (forms slot mask _ (not-not-whole w) k
-        ∙ ap (λ (y : Bool). accepted (mergedEach y (sizes (continues slot mask) (infos ((accountOf b run other) .rest))) 0 (accountOf b run other))) (ap graphemesMerge (level-of b run other) ∙ sym em)) (settles-left b l);
+        ∙ ap (λ (y : Bool). accepted (mergedEach y (groupSizes (continues slot mask) (infos ((accountOf b run other) .rest))) 0 (accountOf b run other))) (ap graphemesMerge (level-of b run other) ∙ sym em)) (settles-left b l);
   }
 
   pub form-decided : {f s : List ℕ} {v : Verdict} → TakesKeyed slot b f s v

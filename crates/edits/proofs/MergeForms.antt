@@ -5,7 +5,7 @@ use lib.{ListN.length, ListN.take, ListN.drop, Seq.slice}
 use Rattle.records.specs.Glyphs.{Glyph}
 use Rattle.lists.specs.Account.{State}
 use Rattle.edits.specs.Merging.{merged, mergedOut}
-use Rattle.edits.specs.Holding.{holds, paid}
+use Rattle.edits.specs.inner.Holding.{holds, paid}
 
 -- s..e is a range of the first len glyphs of the run, which may be empty
 pub record InputRange (run out : List (Glyph ℕ)) (len outLen s e : ℕ) : Type 0 where

@@ -7,17 +7,18 @@ use lib.Dec.{eqb}
 use lib.ListN.{take, drop, length, length-drop}
 use lib.Seq.{slice, drop-drop, length-slice, length-take-le}
 use borrow.Author.Tests.{eq-eqb, ne-eqb, eqb-true, eqb-false}
-use Rattle.records.specs.{Glyphs.Glyph, Glyphs.Info, Glyphs.setCluster, Counters.costs, Ranges.edit, Ranges.is, Ranges.least, Ranges.first, Ranges.last, Ranges.heads, Ranges.tails, Ranges.clusters}
+use Rattle.records.specs.{Glyphs.Glyph, Glyphs.Info, Glyphs.setCluster, Ranges.edit, Ranges.is, Ranges.least, Ranges.firstCluster, Ranges.lastCluster, Ranges.heads, Ranges.tails, Ranges.clusters}
 use Rattle.records.proofs.View.{length-clusters}
-use Rattle.lists.specs.Account.{Account, State, input, paying}
+use Rattle.records.proofs.Edited.{edit-take, edit-take-before, edit-drop-behind}
+use Rattle.lists.specs.Account.{Account, State, input}
 use Rattle.lists.proofs.Runs.{heads-le, tails-le}
-use Rattle.edits.specs.declared.{Merge.Merge}
+use Rattle.edits.specs.declared.Merge.{Merge}
 use Rattle.edits.specs.Merging.{mergeStart, mergeEnd, mergeTail, merged}
-use Rattle.edits.specs.Holding.{holds, paid, cut}
-use Rattle.edits.specs.Plans.{Mergeable, WrittenApart, WrittenWithin, mergePlan, tailStart, mergedRun, mergedTail}
+use Rattle.edits.specs.inner.Holding.{holds, paid, cut}
+use Rattle.edits.specs.inner.Plans.{Mergeable, WrittenApart, WrittenWithin, mergePlan, tailStart, mergedRun, mergedTail}
 use Rattle.edits.proofs.MergeForms.{InputRange, InputFrom, MergedApart, MergedWithin}
-use Rattle.edits.proofs.Holding.{edit-take, edit-take-before, edit-drop-behind, slice-shift, length-slice-le}
-use Rattle.edits.proofs.Bridge.{input-is, input-clusters, done-is, done-clusters, holds-limiting, input-edit, input-kept}
+use Rattle.edits.proofs.Holding.{slice-shift, length-slice-le}
+use Rattle.edits.proofs.Bridge.{input-is, input-clusters, done-is, done-clusters, holds-paying, input-edit, input-kept}
 
 -- ---- the places of a merge, counted in the run and counted in the input
 pub start-shift : (g idx s e : ℕ) (cs : List ℕ) → g ≤ idx → g ≤ s → s < e → mergeStart idx s e cs ≡ g + mergeStart (idx - g) (s - g) (e - g) (drop g cs)
@@ -25,8 +26,8 @@ unfolding mergeStart
 start-shift g idx s e cs oi os oe =
     let r : List ℕ = slice (s - g) (e - g) (drop g cs) in
     let q : List ℕ = slice (idx - g) (s - g) (drop g cs) in
-    let b : tails (is (first r)) q ≤ s - g = omega (arith, tails-le (is (first r)) q, length-slice-le (idx - g) (s - g) (drop g cs)) in
-    rw (slice-shift g s e cs os (omega arith), slice-shift g idx s cs oi os) (pick (eqb (first r) (least r)) (tails (is (first r)) q) b)
+    let b : tails (is (firstCluster r)) q ≤ s - g = omega (arith, tails-le (is (firstCluster r)) q, length-slice-le (idx - g) (s - g) (drop g cs)) in
+    rw (slice-shift g s e cs os (omega arith), slice-shift g idx s cs oi os) (pick (eqb (firstCluster r) (least r)) (tails (is (firstCluster r)) q) b)
   where
     pick : (b : Bool) (t : ℕ) → t ≤ s - g → cond b s (s - t) ≡ g + cond b (s - g) (s - g - t)
     pick true t o = omega arith
@@ -38,7 +39,7 @@ end-shift g s e cs os oe =
     let r : List ℕ = slice (s - g) (e - g) (drop g cs) in
     let k : g + (e - g) ≡ e = omega arith in
     let d : drop (e - g) (drop g cs) ≡ drop e cs = drop-drop (e - g) g cs ∙ ap (λ (n : ℕ). drop n cs) k in
-    rw (slice-shift g s e cs os (omega arith), d) (pick (eqb (last r) (least r)) (heads (is (last r)) (drop e cs)))
+    rw (slice-shift g s e cs os (omega arith), d) (pick (eqb (lastCluster r) (least r)) (heads (is (lastCluster r)) (drop e cs)))
   where
     pick : (b : Bool) (t : ℕ) → cond b e (e + t) ≡ g + cond b (e - g) (e - g + t)
     pick true t = omega arith
@@ -48,7 +49,7 @@ pub start-most : (idx s e : ℕ) (cs : List ℕ) → mergeStart idx s e cs ≤ s
 unfolding mergeStart
 start-most idx s e cs =
     let r : List ℕ = slice s e cs in
-    pick (eqb (first r) (least r)) (tails (is (first r)) (slice idx s cs))
+    pick (eqb (firstCluster r) (least r)) (tails (is (firstCluster r)) (slice idx s cs))
   where
     pick : (b : Bool) (t : ℕ) → cond b s (s - t) ≤ s
     pick true t = omega arith
@@ -58,7 +59,7 @@ pub end-least : (s e : ℕ) (cs : List ℕ) → e ≤ mergeEnd s e cs
 unfolding mergeEnd
 end-least s e cs =
     let r : List ℕ = slice s e cs in
-    pick (eqb (last r) (least r)) (heads (is (last r)) (drop e cs))
+    pick (eqb (lastCluster r) (least r)) (heads (is (lastCluster r)) (drop e cs))
   where
     pick : (b : Bool) (t : ℕ) → e ≤ cond b e (e + t)
     pick true t = omega arith
@@ -71,7 +72,7 @@ pub end-most : (s e : ℕ) (cs : List ℕ) → e ≤ length cs → mergeEnd s e 
 unfolding mergeEnd
 end-most s e cs o =
     let r : List ℕ = slice s e cs in
-    pick (eqb (last r) (least r)) (heads (is (last r)) (drop e cs)) (rw (length-drop e cs) at (heads-le (is (last r)) (drop e cs)))
+    pick (eqb (lastCluster r) (least r)) (heads (is (lastCluster r)) (drop e cs)) (rw (length-drop e cs) at (heads-le (is (lastCluster r)) (drop e cs)))
   where
     pick : (b : Bool) (t : ℕ) → t ≤ length cs - e → cond b e (e + t) ≤ length cs
     pick true t h = omega arith
@@ -139,7 +140,7 @@ module _ {run out : List (Glyph ℕ)} {gone idx len outLen s e : ℕ} (v : Merge
       → slice gone len run′ ≡ edit (p .from - gone) (p .to - gone) (setCluster (p .lowest) 0) (slice gone len run)
       → take outLen out′ ≡ edit (tailStart (p .tail) (p .leader) (cut outLen out) outLen) outLen (setCluster (p .lowest) 0) (take outLen out)
       → (k : State) → holds run′ out′ gone idx len outLen (paid (e - s) k) ≡ merged (s - gone) (e - gone) (holds run out gone idx len outLen k)
-  unfolding mergePlan tailStart mergeTail merged paying
+  unfolding mergePlan tailStart mergeTail merged
   merged-holds run′ out′ p ep er eo k =
       let cursor : gone ≤ idx = w .cursor in
       let inside : idx ≤ len = w .inside in
@@ -165,7 +166,7 @@ module _ {run out : List (Glyph ℕ)} {gone idx len outLen s e : ℕ} (v : Merge
       ap (λ (n : ℕ). eqb n idx) S-is ∙ eqb-shift gone _ idx cursor in
       let cost : e - gone - (s - gone) ≡ e - s = cost-shift gone s e start order in
       rw cost
-      (holds-limiting run out gone idx len outLen k cursor inside fits (costs (e - s)) run′ out′ _ _
+      (holds-paying run out gone idx len outLen k cursor inside fits (e - s) run′ out′ _ _
       (er ∙ rw (ep, S-sub, E-sub, r-is, cs-is, in-is, k-is))
       (eo ∙ rw (ep, ds-is, cs-is, d-is, k-is, n-is, dn-is, r-is, test)))
 

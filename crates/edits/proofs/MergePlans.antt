@@ -6,21 +6,21 @@ use lib.Dec.{eqb}
 use lib.ListN.{take, length, getD}
 use lib.Seq.{slice, slice-cons}
 use borrow.Author.Tests.{eq-eqb, ne-eqb}
-use Rattle.records.specs.{Glyphs.Glyph, Ranges.is, Ranges.least, Ranges.first, Ranges.last, Ranges.heads, Ranges.tails, Ranges.clusters}
+use Rattle.records.specs.{Glyphs.Glyph, Ranges.is, Ranges.least, Ranges.firstCluster, Ranges.lastCluster, Ranges.heads, Ranges.tails, Ranges.clusters}
 use Rattle.records.proofs.View.{length-clusters}
 use Rattle.lists.proofs.Runs.{slice-last}
-use Rattle.edits.specs.declared.{Merge.Merge}
+use Rattle.edits.specs.declared.Merge.{Merge}
 use Rattle.edits.specs.Merging.{mergeStart, mergeEnd}
-use Rattle.edits.specs.Plans.{MergeRange, mergePlan}
+use Rattle.edits.specs.inner.Plans.{MergeRange, mergePlan}
 use Rattle.edits.proofs.Holding.{slice-take}
 
 -- ---- the ends of a range
-pub first-slice : (s e : ℕ) (cs : List ℕ) → s < e → e ≤ length cs → first (slice s e cs) ≡ getD cs s 4294967295
-unfolding first
+pub first-slice : (s e : ℕ) (cs : List ℕ) → s < e → e ≤ length cs → firstCluster (slice s e cs) ≡ getD cs s 4294967295
+unfolding firstCluster
 first-slice s e cs o b = rw (slice-cons s e cs 4294967295 o b)
 
-pub last-slice : (s e : ℕ) (cs : List ℕ) → s < e → e ≤ length cs → last (slice s e cs) ≡ getD cs (e - 1) 4294967295
-unfolding last
+pub last-slice : (s e : ℕ) (cs : List ℕ) → s < e → e ≤ length cs → lastCluster (slice s e cs) ≡ getD cs (e - 1) 4294967295
+unfolding lastCluster
 last-slice s e cs o b =
     let k : e ≡ suc (e - 1) = omega arith in
     let w : slice s e cs ≡ slice s (e - 1) cs ++ (getD cs (e - 1) 4294967295 ∷ []) =
@@ -34,10 +34,10 @@ module _ {l : List (Glyph ℕ)} {len s e m : ℕ} (v : MergeRange l len s e m) w
   bound : e ≤ length (clusters l)
   bound = rw (length-clusters l) (omega (arith, v .inside, v .fits))
 
-  first-is : first (slice s e (clusters l)) ≡ getD (clusters l) s 4294967295
+  first-is : firstCluster (slice s e (clusters l)) ≡ getD (clusters l) s 4294967295
   first-is = first-slice s e (clusters l) (v .order) bound
 
-  last-is : last (slice s e (clusters l)) ≡ getD (clusters l) (e - 1) 4294967295
+  last-is : lastCluster (slice s e (clusters l)) ≡ getD (clusters l) (e - 1) 4294967295
   last-is = last-slice s e (clusters l) (v .order) bound
 
   pub end-same : {c : ℕ} → c ≡ getD (clusters l) (e - 1) 4294967295 → c ≡ m → e ≡ mergeEnd s e (take len (clusters l))

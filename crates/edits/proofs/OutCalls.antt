@@ -6,17 +6,19 @@ use borrow.Author.Tests.{le-ltb, lt-ltb}
 use lib.{Dec.ltb, ListN.length, ListN.drop}
 use Rattle.records.specs.{DonePlace, Contradiction, WrongPhase, OutOfRange, Done, No, Limits, Glyphs.Glyph, Counters.costs, View.glyphs}
 use Rattle.records.proofs.View.{glyphs-same}
-use Rattle.lists.specs.declared.{Buffer.Buffer, Verdict.Verdict}
-use Rattle.lists.specs.{Account.readLevel, Account.Account, Account.outputPhase, Account.hasOutput, Account.outLen, Account.withLimits, Results.refused, Results.accepted, Results.refuse_when_else_, State.goneOf, State.stateOf, State.accountOf, State.sound, States.withLimitsOf, Verdicts.Leaves, Verdicts.settled, Verdicts.Sided, Verdicts.Decided}
+use Rattle.lists.specs.{declared.Buffer.Buffer, declared.Verdict.Verdict}
+use Rattle.lists.specs.{Account.readLevel, Account.Account, Account.outputPhase, Account.hasOutput, Account.outLen, Account.withLimits, Account.refused, Account.accepted, Contract.goneOf, Contract.stateOf, Contract.accountOf, Contract.sound, inner.States.withLimitsOf, inner.Verdicts.Leaves, inner.Verdicts.settled, inner.Verdicts.Sided, inner.Verdicts.Decided}
 use Rattle.lists.proofs.{Accounts.output-of, Accounts.out-of, Accounts.level-of, SoundLaws.sound-held}
 use Rattle.lists.proofs.Decisions.{near-limits, decided-unsound, decided-refused, decided-does}
-use Rattle.lists.proofs.Outputs.{gone-out, shown-output}
+use Rattle.lists.proofs.Outputs.{gone-output, shown-output}
 use Rattle.lists.proofs.SoundLaws.{soundness}
+use Rattle.lists.proofs.Refusing.{refusing}
 use Rattle.records.proofs.Tests.{tested}
-use Rattle.edits.specs.declared.{OutMerge.OutMerge}
-use Rattle.edits.specs.{Acts.Acts, Acts.OutMergeful, Holding.holds, Holding.cut, Merging.mergeOut, Merging.mergedOut, Merging.mergeDone, Merging.clustersMerge, Merging.graphemesMerge, Plans.outPlan, Plans.OutWritable, Plans.WrittenOutApart, Plans.WrittenOutWithin}
+use Rattle.lists.proofs.Changed.{own-limits, state-own, state-paid}
+use Rattle.edits.specs.declared.OutMerge.{OutMerge}
+use Rattle.edits.specs.{inner.Acts.Acts, inner.Acts.OutMergeful, inner.Holding.holds, inner.Holding.cut, Merging.mergeOut, Merging.mergedOut, Merging.mergeDone, Merging.clustersMerge, Merging.graphemesMerge, inner.Plans.outPlan, inner.Plans.OutWritable, inner.Plans.WrittenOutApart, inner.Plans.WrittenOutWithin}
 use Rattle.edits.proofs.MergeForms.{OutMergeable}
-use Rattle.edits.specs.MergeActs.{mergeLimits, OutMergeRoom, OutMerges, MergesDone}
+use Rattle.edits.specs.inner.MergeActs.{mergeLimits, OutMergeRoom, OutMerges, MergesDone}
 use Rattle.edits.proofs.MergeCalls.{account-apart, account-within, acts-paid, acts-kept, in-acts}
 use Rattle.edits.proofs.MergeDecisions.{limits-paid, limits-few, limits-free}
 use Rattle.edits.proofs.OutMerges.{merged-out-apart, merged-out-within, out-writable}
@@ -25,20 +27,24 @@ both-is : (x y z : Bool) → x ≡ true → y ≡ z → (x && y) ≡ z
 both-is x y z h k = rw h k
 
 module _ (b : Buffer) (l : Limits) (run other : List ℕ) (o : outputPhase (b .phase) ≡ true) where
-  gone-idx : goneOf b ≡ b .idx .0
-  unfolding goneOf
-  gone-idx = gone-out (b .phase) (b .idx .0) (b .len .0) o
-
   pub out-apart : b .«have_separate_output» ≡ true → accountOf (withLimitsOf l b) run other ≡ holds (glyphs run) (glyphs other) (b .idx .0) (b .idx .0) (b .len .0) (b .«out_len» .0) (withLimits l (stateOf b))
   out-apart h =
       account-apart b l run other (both-is (outputPhase (b .phase)) (b .«have_separate_output») true o h)
-      ∙ ap (λ (g : ℕ). holds (glyphs run) (glyphs other) g (b .idx .0) (b .len .0) (b .«out_len» .0) (withLimits l (stateOf b))) gone-idx
+      ∙ ap (λ (g : ℕ). holds (glyphs run) (glyphs other) g (b .idx .0) (b .len .0) (b .«out_len» .0) (withLimits l (stateOf b))) (gone-output b o)
 
   pub out-within : b .«have_separate_output» ≡ false → accountOf (withLimitsOf l b) run other ≡ holds (glyphs run) (glyphs run) (b .idx .0) (b .idx .0) (b .len .0) (b .«out_len» .0) (withLimits l (stateOf b))
   out-within h =
       account-within b l run other (both-is (outputPhase (b .phase)) (b .«have_separate_output») false o h) (λ n. absurd (false≢true (sym n ∙ o)))
       ∙ (ap (λ (x : List (Glyph ℕ)). holds x x (goneOf b) (b .idx .0) (b .len .0) (b .«out_len» .0) (withLimits l (stateOf b))) (shown-output (b .phase) run other o)
-      ∙ ap (λ (g : ℕ). holds (glyphs run) (glyphs run) g (b .idx .0) (b .len .0) (b .«out_len» .0) (withLimits l (stateOf b))) gone-idx)
+      ∙ ap (λ (g : ℕ). holds (glyphs run) (glyphs run) g (b .idx .0) (b .len .0) (b .«out_len» .0) (withLimits l (stateOf b))) (gone-output b o))
+
+-- the same under its own limits
+module _ (b : Buffer) (run other : List ℕ) (o : outputPhase (b .phase) ≡ true) where
+  pub own-out-apart : b .«have_separate_output» ≡ true → accountOf b run other ≡ holds (glyphs run) (glyphs other) (b .idx .0) (b .idx .0) (b .len .0) (b .«out_len» .0) (stateOf b)
+  own-out-apart h = rw (own-limits b, state-own b) at (out-apart b (b .limits) run other o h)
+
+  pub own-out-within : b .«have_separate_output» ≡ false → accountOf b run other ≡ holds (glyphs run) (glyphs run) (b .idx .0) (b .idx .0) (b .len .0) (b .«out_len» .0) (stateOf b)
+  own-out-within h = rw (own-limits b, state-own b) at (out-within b (b .limits) run other o h)
 
 -- ---- the three ways of a merge in the output
 module _ {b : Buffer} {run other : List ℕ} {s e : ℕ} (v : OutMergeful b s e run other) (merges : Bool) where
@@ -69,18 +75,16 @@ module _ {b : Buffer} {run other : List ℕ} {s e : ℕ} (v : OutMergeful b s e 
 
     at-apart : {p : OutMerge} {run′ other′ : List ℕ} → b .«have_separate_output» ≡ true → length run′ ≡ length run → length other′ ≡ length other → p ≡ outPlan s e (cut (b .«out_len» .0) (glyphs other))
         → WrittenOutApart p (b .idx .0) (b .len .0) (glyphs run) (glyphs other) (glyphs run′) (glyphs other′) → Merged run′ other′
-    unfolding withLimitsOf withLimits stateOf
     at-apart {p} {run′} {other′} k lr lo ep w =
         let m = merged-out-apart out-ready ep w in
-        costly lr lo (m .behind) (m .out-behind) (out-apart b (costs (e - s) (b .limits)) run′ other′ (v .output) k ∙ (m .account (stateOf b) ∙ ap (mergedOut s e) (sym (out-apart b (b .limits) run other (v .output) k))))
+        costly lr lo (m .behind) (m .out-behind) (rw (out-apart b (costs (e - s) (b .limits)) run′ other′ (v .output) k, own-out-apart b run other (v .output) k, state-paid b (e - s)) (m .account (stateOf b)))
 
     at-within : {p : OutMerge} {run′ : List ℕ} → b .«have_separate_output» ≡ false → length run′ ≡ length run → p ≡ outPlan s e (cut (b .«out_len» .0) (glyphs run))
         → WrittenOutWithin p (b .idx .0) (b .len .0) (glyphs run) (glyphs run′) → Merged run′ other
-    unfolding withLimitsOf withLimits stateOf
     at-within {p} {run′} k lr ep w =
         let ready : OutMergeable (glyphs run) (glyphs run) (b .idx .0) (b .len .0) (b .«out_len» .0) s e = record { order = out-ready .order; end = v .end; out-fits = omega (arith, v .held .out-in, v .held .all-in); inside = v .held .idx-in; fits = out-ready .fits } in
         let m = merged-out-within ready (v .held .behind (v .output) k) ep w in
-        costly lr refl (m .behind) refl (out-within b (costs (e - s) (b .limits)) run′ other (v .output) k ∙ (m .account (stateOf b) ∙ ap (mergedOut s e) (sym (out-within b (b .limits) run other (v .output) k))))
+        costly lr refl (m .behind) refl (rw (out-within b (costs (e - s) (b .limits)) run′ other (v .output) k, own-out-within b run other (v .output) k, state-paid b (e - s)) (m .account (stateOf b)))
 
 -- ---- the act
 module _ {x separate merges : Bool} {idx len outLen s e : ℕ} {f g : List ℕ} where
@@ -114,16 +118,16 @@ module _ {idx len outLen s e : ℕ} {f g : List ℕ} {p : OutMerge} (w : OutMerg
 -- ---- 12 and 14
 module _ (at : ℕ → Bool) (s e : DonePlace) (a : Account ℕ) where
   done-none : hasOutput a ≡ false → mergeDone at s e a ≡ refused WrongPhase
-  unfolding mergeDone refuse_when_else_
-  done-none h = rw h
+  unfolding mergeDone
+  done-none h = simp (h, refusing)
 
   done-outside : hasOutput a ≡ true → (ltb (e .0) (s .0) || ltb (outLen a) (e .0)) ≡ true → mergeDone at s e a ≡ refused OutOfRange
-  unfolding mergeDone refuse_when_else_
-  done-outside h k = rw (h, k)
+  unfolding mergeDone
+  done-outside h k = simp (h, k, refusing)
 
   done-merges : hasOutput a ≡ true → (ltb (e .0) (s .0) || ltb (outLen a) (e .0)) ≡ false → mergeDone at s e a ≡ accepted (mergeOut (at (a .state .level)) (s .0) (e .0) a)
-  unfolding mergeDone refuse_when_else_
-  done-merges h k = rw (h, k)
+  unfolding mergeDone
+  done-merges h k = simp (h, k, refusing)
 
 module _ {merges : Bool} {s e : DonePlace} {b : Buffer} {f g : List ℕ} {v : Verdict} where
   pub done-unsound : sound b f g ≡ false → Leaves b false (No Contradiction) v → MergesDone merges s e b f g v

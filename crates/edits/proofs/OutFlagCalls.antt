@@ -6,19 +6,21 @@ use borrow.Author.Tests.{ltb-false}
 use lib.{Dec.ltb, ListN.length, ListN.drop}
 use Rattle.records.specs.{DonePlace, InputPlace, Contradiction, WrongPhase, OutOfRange, Done, No, Glyphs.Glyph, View.glyphs}
 use Rattle.records.proofs.View.{glyphs-same}
-use Rattle.lists.specs.declared.{Buffer.Buffer, Verdict.Verdict}
-use Rattle.lists.specs.{Account.readLevel, Account.Account, Account.outputPhase, Account.hasOutput, Account.len, Account.idx, Account.outLen, Account.withLimits, Results.refused, Results.accepted, Results.refuse_when_else_, State.accountOf, State.stateOf, State.sound, State.Held, States.withLimitsOf, Verdicts.Leaves, Verdicts.settled, Verdicts.Sided, Verdicts.Decided}
+use Rattle.lists.specs.{declared.Buffer.Buffer, declared.Verdict.Verdict}
+use Rattle.lists.specs.{Account.readLevel, Account.Account, Account.outputPhase, Account.hasOutput, Account.len, Account.idx, Account.outLen, Account.refused, Account.accepted, Contract.accountOf, Contract.stateOf, Contract.sound, inner.Held.Held, inner.Verdicts.Leaves, inner.Verdicts.settled, inner.Verdicts.Sided, inner.Verdicts.Decided}
 use Rattle.lists.proofs.{Accounts.output-of, Accounts.out-of, Accounts.idx-of, Accounts.wants-of, Accounts.output-clean, SoundLaws.sound-held, Decisions.near-same, Decisions.accepts, Decisions.decided-unsound, Decisions.decided-refused, Decisions.decided-accepted, Decisions.decided-does}
 use Rattle.lists.proofs.SoundLaws.{soundness}
+use Rattle.lists.proofs.Refusing.{refusing}
 use Rattle.records.proofs.Tests.{tested}
-use Rattle.edits.specs.declared.{InputBound.InputBound, DoneBound.DoneBound}
-use Rattle.edits.specs.{Acts.Acts, Bounds.inputBound, Bounds.inputNumber, Bounds.doneBound, Bounds.doneNumber, Flags.number, Flags.tooFar, Flags.startOf, Flags.endOf, Flags.outbufferForm, Flags.wantsConcat, Marks.flaggedPart, Marks.soughtOut, Marks.flagOut, Marks.OutFlaggable, Marks.OutFlagged, Marks.FlagsOut}
+use Rattle.lists.proofs.Changed.{state-level}
+use Rattle.edits.specs.{declared.InputBound.InputBound, declared.DoneBound.DoneBound}
+use Rattle.edits.specs.{inner.Acts.Acts, Flags.inputBound, inner.BoundNumbers.inputNumber, Flags.doneBound, inner.BoundNumbers.doneNumber, Flags.placeNumber, Flags.tooFar, Flags.startOf, Flags.endOf, Flags.outbufferForm, Flags.wantsConcat, inner.Marks.flaggedPart, inner.Marks.soughtOut, inner.Marks.flagOut, inner.Marks.OutFlaggable, inner.Marks.OutFlagged, inner.Marks.FlagsOut}
 use Rattle.edits.proofs.MergeForms.{OutRange}
 use Rattle.edits.proofs.BoundLaws.{end-most}
 use Rattle.edits.proofs.FlagCalls.{idle-of, end-of}
 use Rattle.edits.proofs.OutFlags.{part-behind, middle-fits, out-flagged-apart, out-flagged-within}
 use Rattle.edits.proofs.MergeCalls.{acts-both, in-acts, neither-left, neither-right}
-use Rattle.edits.proofs.OutCalls.{out-apart, out-within}
+use Rattle.edits.proofs.OutCalls.{own-out-apart, own-out-within}
 
 -- ---- the account: s..e are places of the output and of the run
 record Placed (b : Buffer) (s e : ℕ) (run other : List ℕ) : Type 0 where
@@ -45,7 +47,6 @@ module _ {b : Buffer} {s e : ℕ} {run other : List ℕ} (v : Placed b s e run o
 
   out-acts : (interiorly : Bool) (bits : ℕ) {run′ other′ : List ℕ} → length run′ ≡ length run → length other′ ≡ length other
       → OutFlagged (b .«have_separate_output») interiorly (readLevel (b .level)) bits (b .idx .0) (b .«out_len» .0) s e run other run′ other′ → Acts (flagOut interiorly bits s (e - b .idx .0)) b run other b run′ other′
-  unfolding withLimitsOf withLimits stateOf
   out-acts interiorly bits {run′} {other′} lr lo w = by-place (b .«have_separate_output») refl
     where
       m : ℕ
@@ -60,8 +61,8 @@ module _ {b : Buffer} {s e : ℕ} {run other : List ℕ} (v : Placed b s e run o
           acts-both (v .held) (flagOut interiorly bits s (e - b .idx .0)) lr lo
           (rw (g .0) (part-behind interiorly (readLevel (b .level)) m bits (b .len .0) (b .idx .0) e (glyphs run) (v .start) end-fits (v .end)))
           (rw (g .1) (part-behind interiorly (readLevel (b .level)) m bits (b .«out_len» .0) s (b .«out_len» .0) (glyphs other) (v .order) (flags-apart .out-fits) (omega arith)))
-          (out-apart b (b .limits) run′ other′ (v .output) h
-          ∙ (out-flagged-apart flags-apart interiorly bits (stateOf b) (readLevel (b .level)) refl (m-is true h) (g .0) (g .1) ∙ ap (flagOut interiorly bits s (e - b .idx .0)) (sym (out-apart b (b .limits) run other (v .output) h))))
+          (own-out-apart b run′ other′ (v .output) h
+          ∙ (out-flagged-apart flags-apart interiorly bits (stateOf b) (readLevel (b .level)) (state-level b) (m-is true h) (g .0) (g .1) ∙ ap (flagOut interiorly bits s (e - b .idx .0)) (sym (own-out-apart b run other (v .output) h))))
       by-place false h =
           let g = w .is .within h in
           let low : b .«out_len» .0 ≤ b .idx .0 = v .held .behind (v .output) h in
@@ -70,8 +71,8 @@ module _ {b : Buffer} {s e : ℕ} {run other : List ℕ} (v : Placed b s e run o
           (rw (g .0) (part-behind interiorly (readLevel (b .level)) m bits (b .len .0) (b .idx .0) e mid (v .start) (omega (arith, v .end, middle-fits flags-within low interiorly (readLevel (b .level)) m bits)) (v .end)
           ∙ part-behind interiorly (readLevel (b .level)) m bits (b .len .0) s (b .«out_len» .0) (glyphs run) (v .order) (flags-within .out-fits) (omega (arith, v .held .idx-in))))
           (ap (λ (x : List ℕ). drop (b .«out_len» .0) (glyphs x)) (g .1))
-          (out-within b (b .limits) run′ other′ (v .output) h
-          ∙ (out-flagged-within flags-within low interiorly (readLevel (b .level)) m bits (stateOf b) refl (m-is false h) (g .0) ∙ ap (flagOut interiorly bits s (e - b .idx .0)) (sym (out-within b (b .limits) run other (v .output) h))))
+          (own-out-within b run′ other′ (v .output) h
+          ∙ (out-flagged-within flags-within low interiorly (readLevel (b .level)) m bits (stateOf b) (state-level b) (m-is false h) (g .0) ∙ ap (flagOut interiorly bits s (e - b .idx .0)) (sym (own-out-within b run other (v .output) h))))
 
 placed : {b : Buffer} {run other : List ℕ} {i j : ℕ} (end : InputBound) → Held b run other → outputPhase (b .phase) ≡ true → j ≡ endOf (inputNumber end) (b .len .0) → (ltb (b .«out_len» .0) i || ltb j (b .idx .0)) ≡ false → Placed b i j run other
 placed {b} {run} {other} {i} {j} end v p ee n = record {
@@ -85,28 +86,28 @@ placed {b} {run} {other} {i} {j} end v p ee n = record {
 -- ---- the tests of the calls
 module _ (interiorly wanted : Bool) (bits : ℕ) (s : Option DonePlace) (e : Option InputPlace) (a : Account ℕ) where
   abbrev s′ : Option ℕ
-  s′ = number (λ p. p .0) s
+  s′ = placeNumber (λ p. p .0) s
 
   abbrev e′ : Option ℕ
-  e′ = number (λ p. p .0) e
+  e′ = placeNumber (λ p. p .0) e
 
   out-in-none : hasOutput a ≡ false → outbufferForm interiorly wanted bits s e a ≡ refused WrongPhase
-  unfolding outbufferForm refuse_when_else_
-  out-in-none h = rw h
+  unfolding outbufferForm
+  out-in-none h = simp (h, refusing)
 
   module _ (h : hasOutput a ≡ true) where
     out-in-idle : (not wanted || tooFar s′ e′) ≡ true → outbufferForm interiorly wanted bits s e a ≡ accepted a
-    unfolding outbufferForm refuse_when_else_
-    out-in-idle k = rw (h, k)
+    unfolding outbufferForm
+    out-in-idle k = simp (h, k, refusing)
 
     module _ (k : (not wanted || tooFar s′ e′) ≡ false) {i j x n : ℕ} (ei : i ≡ startOf s′) (ej : j ≡ endOf e′ (len a)) (ex : x ≡ idx a) (en : n ≡ outLen a) where
       out-in-outside : (ltb n i || ltb j x) ≡ true → outbufferForm interiorly wanted bits s e a ≡ refused OutOfRange
-      unfolding outbufferForm refuse_when_else_
-      out-in-outside o = rw (h, k, ← ei, ← ej, ← ex, ← en, o)
+      unfolding outbufferForm
+      out-in-outside o = simp (h, k, ← ei, ← ej, ← ex, ← en, o, refusing)
 
       out-in-flags : (ltb n i || ltb j x) ≡ false → outbufferForm interiorly wanted bits s e a ≡ accepted (flagOut interiorly bits i (j - x) a)
-      unfolding outbufferForm refuse_when_else_ flagOut
-      out-in-flags o = rw (h, k, ← ei, ← ej, ← ex, ← en, o)
+      unfolding outbufferForm flagOut
+      out-in-flags o = simp (h, k, ← ei, ← ej, ← ex, ← en, o, refusing)
 
 -- ---- what the calls come to, by their tests
 module _ {concat : Bool} {start : DoneBound} {end : InputBound} {b : Buffer} {f s : List ℕ} {v : Verdict} where

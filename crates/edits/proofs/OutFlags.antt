@@ -6,13 +6,14 @@ use native.Mathlib.Omega.{arith}
 use lib.ListN.{take, drop, length}
 use lib.Seq.{slice, length-take-le}
 use Rattle.records.specs.{Glyphs.Glyph, Glyphs.flagged, Ranges.clusters}
+use Rattle.records.proofs.Edited.{edit-take-before, edit-drop-behind}
 use Rattle.lists.specs.Account.{Account, State, input, outLen as outLenOf}
 use Rattle.lists.proofs.{Copying.drop-take, Editing.edit-length}
 use Rattle.edits.specs.Flags.{flagAll, flagOutInterior, flagOutAll}
-use Rattle.edits.specs.Marks.{flaggedPart, soughtOut, flagOut}
-use Rattle.edits.specs.Holding.{holds, cut}
+use Rattle.edits.specs.inner.Marks.{flaggedPart, soughtOut, flagOut}
+use Rattle.edits.specs.inner.Holding.{holds, cut}
 use Rattle.edits.proofs.MergeForms.{OutRange}
-use Rattle.edits.proofs.Holding.{slice-take, edit-take-before, edit-drop-behind}
+use Rattle.edits.proofs.Holding.{slice-take}
 use Rattle.edits.proofs.Bridge.{input-is, input-clusters, done-is, done-clusters, holds-with, input-edit}
 use Rattle.edits.proofs.FlagLaws.{level-held, interior-in, interior-length, interior-behind, interior-before}
 

@@ -6,18 +6,19 @@ use native.Mathlib.Omega.{arith}
 use lib.Dec.{eqb}
 use lib.ListN.{take, drop, length, getD, length-drop}
 use lib.Seq.{slice, take-take, length-slice, length-take-le}
-use Rattle.records.specs.{Glyphs.Glyph, Glyphs.Info, Glyphs.setCluster, Counters.costs, Ranges.edit, Ranges.is, Ranges.least, Ranges.first, Ranges.last, Ranges.heads, Ranges.tails, Ranges.clusters}
+use Rattle.records.specs.{Glyphs.Glyph, Glyphs.Info, Glyphs.setCluster, Ranges.edit, Ranges.is, Ranges.least, Ranges.firstCluster, Ranges.lastCluster, Ranges.heads, Ranges.tails, Ranges.clusters}
 use Rattle.records.proofs.View.{length-clusters}
-use Rattle.lists.specs.Account.{Account, State, input, paying}
+use Rattle.records.proofs.Edited.{edit-take, edit-take-before, edit-drop-behind}
+use Rattle.lists.specs.Account.{Account, State, input}
 use Rattle.lists.proofs.Runs.{heads-le}
-use Rattle.edits.specs.declared.{OutMerge.OutMerge}
+use Rattle.edits.specs.declared.OutMerge.{OutMerge}
 use Rattle.edits.specs.Merging.{outStart, outEnd, outHead, mergedOut}
-use Rattle.edits.specs.Holding.{holds, paid, cut}
-use Rattle.edits.specs.Plans.{outPlan, headEnd, mergedOutput, mergedHead, OutWritable, WrittenOutApart, WrittenOutWithin}
+use Rattle.edits.specs.inner.Holding.{holds, paid, cut}
+use Rattle.edits.specs.inner.Plans.{outPlan, headEnd, mergedOutput, mergedHead, OutWritable, WrittenOutApart, WrittenOutWithin}
 use Rattle.edits.proofs.MergeForms.{OutMergeable, MergedOutApart, MergedOutWithin}
 use Rattle.edits.proofs.MergePlans.{first-slice, last-slice}
-use Rattle.edits.proofs.Holding.{slice-take, edit-take, edit-take-before, edit-drop-behind}
-use Rattle.edits.proofs.Bridge.{input-is, input-clusters, done-is, done-clusters, holds-limiting, input-edit, input-kept}
+use Rattle.edits.proofs.Holding.{slice-take}
+use Rattle.edits.proofs.Bridge.{input-is, input-clusters, done-is, done-clusters, holds-paying, input-edit, input-kept}
 
 -- ---- the plan
 module _ (l : List (Glyph ℕ)) (n s e : ℕ) (o : s < e) (b : e ≤ n) (f : n ≤ length l) where
@@ -31,8 +32,8 @@ module _ (l : List (Glyph ℕ)) (n s e : ℕ) (o : s < e) (b : e ≤ n) (f : n �
       let r : slice s e (cut n l) ≡ slice s e cs = slice-take s e n cs b in
       let t : take s (cut n l) ≡ take s cs = take-take s n cs (omega arith) in
       let z : length (cut n l) ≡ n = length-take-le n cs (rw (length-clusters l) f) in
-      let fi : first (slice s e cs) ≡ c = first-slice s e cs o w ∙ sym ec in
-      let la : last (slice s e cs) ≡ d = last-slice s e cs o w ∙ sym ed in
+      let fi : firstCluster (slice s e cs) ≡ c = first-slice s e cs o w ∙ sym ec in
+      let la : lastCluster (slice s e cs) ≡ d = last-slice s e cs o w ∙ sym ed in
       rw (r, t, z, fi, la, ← em, ← ef, ← et)
 
 module _ {run out : List (Glyph ℕ)} {idx len outLen s e : ℕ} (v : OutMergeable run out idx len outLen s e) (p : OutMerge) (ep : p ≡ outPlan s e (cut outLen out)) where
@@ -42,9 +43,9 @@ module _ {run out : List (Glyph ℕ)} {idx len outLen s e : ℕ} (v : OutMergeab
       let X : List ℕ = cut outLen out in
       let r : List ℕ = slice s e X in
       let n : length X ≡ outLen = length-take-le outLen (clusters out) (rw (length-clusters out) (v .out-fits)) in
-      let ef : p .from ≡ s - tails (is (first r)) (take s X) = ap (λ (q : OutMerge). q .from) ep in
-      let et : p .to ≡ e + heads (is (last r)) (drop e X) = ap (λ (q : OutMerge). q .to) ep in
-      let h : heads (is (last r)) (drop e X) ≤ length X - e = rw (length-drop e X) at (heads-le (is (last r)) (drop e X)) in
+      let ef : p .from ≡ s - tails (is (firstCluster r)) (take s X) = ap (λ (q : OutMerge). q .from) ep in
+      let et : p .to ≡ e + heads (is (lastCluster r)) (drop e X) = ap (λ (q : OutMerge). q .to) ep in
+      let h : heads (is (lastCluster r)) (drop e X) ≤ length X - e = rw (length-drop e X) at (heads-le (is (lastCluster r)) (drop e X)) in
       let o : s < e = v .order in
       let b : e ≤ outLen = v .end in
       (omega arith, omega arith)
@@ -53,7 +54,7 @@ module _ {run out : List (Glyph ℕ)} {idx len outLen s e : ℕ} (v : OutMergeab
       → slice idx len run′ ≡ edit 0 (at - idx) (setCluster (p .lowest) 0) (slice idx len run)
       → take outLen out′ ≡ edit (p .from) (p .to) (setCluster (p .lowest) 0) (take outLen out)
       → (k : State) → holds run′ out′ idx idx len outLen (paid (e - s) k) ≡ mergedOut s e (holds run out idx idx len outLen k)
-  unfolding outPlan outHead mergedOut paying headEnd
+  unfolding outPlan outHead mergedOut headEnd
   out-holds run′ out′ at ea el ed k =
       let a : Account ℕ = holds run out idx idx len outLen k in
       let in-is : input a ≡ slice idx len run = input-is run out idx idx len outLen k (le-refl idx) (v .inside) (v .fits) in
@@ -61,7 +62,7 @@ module _ {run out : List (Glyph ℕ)} {idx len outLen s e : ℕ} (v : OutMergeab
       let d-is : a .done ≡ take outLen out = done-is run out idx idx len outLen k (le-refl idx) (v .inside) (v .fits) in
       let ds-is : clusters (a .done) ≡ cut outLen out = done-clusters run out idx idx len outLen k (le-refl idx) (v .inside) (v .fits) in
       let at-is : at - idx ≡ cond (p .head) (heads (is (p .closer)) (slice idx len (clusters run))) 0 = omega arith in
-      holds-limiting run out idx idx len outLen k (le-refl idx) (v .inside) (v .fits) (costs (e - s)) run′ out′ _ _
+      holds-paying run out idx idx len outLen k (le-refl idx) (v .inside) (v .fits) (e - s) run′ out′ _ _
       (el ∙ rw (at-is, ep, cs-is, in-is, ds-is))
       (ed ∙ rw (ep, ds-is, d-is))
 

@@ -3,14 +3,15 @@ use mathlib.Core.{Path._≡_, Path.refl, Path.sym, Path.ap, Path._∙_, Bool.Boo
 use Prim.Native.Nat.{ℕ, _+_, _-_, _≤_, _<_, zero-le}
 use native.Mathlib.Omega.{arith}
 use lib.{Dec.ltb, ListN.length, ListN.take, ListN.drop, ListN.getD, ListN.set, Seq.slice}
-use Rattle.records.specs.{Phase, Position, Counters.costs, Glyphs.Glyph, Glyphs.Info, Glyphs.blank, Glyphs.change, Glyphs.withPosition, Glyphs.zeroPosition, Glyphs.setCluster, Ranges.clusters, Ranges.infos, Ranges.edit, Ranges.is, Ranges.isnt, Ranges.least, Ranges.first, Ranges.last, Ranges.tails, View.paired, View.zeroGlyph}
+use Rattle.records.specs.{Phase, Position, Counters.costs, Glyphs.Glyph, Glyphs.Info, Glyphs.blank, Glyphs.change, Glyphs.withPosition, Glyphs.zeroPosition, Glyphs.setCluster, Ranges.clusters, Ranges.infos, Ranges.edit, Ranges.is, Ranges.isnt, Ranges.least, Ranges.firstCluster, Ranges.lastCluster, Ranges.tails, View.paired, inner.Stores.zeroGlyph}
 use Rattle.records.proofs.{View.length-paired, View.length-clusters, Pairs.paired-take, Pairs.paired-drop, Pairs.paired-set, Pairs.paired-at}
 use Rattle.lists.specs.{Account.Account, Account.State, Account.inPhase, Account.withGone, Account.withLimits, Account.input, Account.limiting, Account.paying, Account.withInput, Account.withDone, Cursor.dropping}
 use Rattle.edits.specs.{Deleting.current, Deleting.survives, Deleting.inherited, Deleting.mergedForward, Deleting.deleted, Flags.interior, Flags.sought, Flags.flagInterior, Merging.mergeEnd, Merging.mergeStart, Merging.mergeTail, Merging.merged, Merging.merge, Merging.clustersMerge}
 use Rattle.records.proofs.Pairs.{cluster-alone, mask-alone}
+use Rattle.records.proofs.Apart.{Apart, set-apart, clusters-paired, paired-edit}
 use Rattle.edits.proofs.Holding.{same-account}
 use Rattle.edits.proofs.MergeLaws.{merge-order}
-use Rattle.edits.proofs.Places.{Apart, set-apart, clusters-paired, paired-edit, paired-interior}
+use Rattle.edits.proofs.Places.{paired-interior}
 
 -- the glyphs, each with its position where there are positions
 unfoldable pub pairing : Bool → List (Glyph ℕ) → List Position → List (Glyph ℕ)
@@ -94,7 +95,7 @@ tail-end : (s e : ℕ) (cs ds : List ℕ) → mergeTail 0 s e cs ds ≤ length d
 unfolding mergeTail
 tail-end s e cs ds =
     let r : List ℕ = slice s e cs in
-    pick (is 0 (mergeStart 0 s e cs) && isnt (least r) (first r)) (tails (is (first r)) ds)
+    pick (is 0 (mergeStart 0 s e cs) && isnt (least r) (firstCluster r)) (tails (is (firstCluster r)) ds)
   where
     pick : (x : Bool) (n : ℕ) → cond x (length ds - n) (length ds) ≤ length ds
     pick true n = omega arith
@@ -120,11 +121,11 @@ module _ (t : Bool) (p : Phase) (ds rs : List Position) (g : ℕ) where
   module _ (d r : List (Glyph ℕ)) (k : State) where
     inherited-beside : (c m : ℕ) → inherited c m (beside t p g ds rs (lone d r k)) ≡ beside t p g ds rs (inherited c m (lone d r k))
     unfolding inherited beside withDone
-    inherited-beside c m = rw (clusters-pairing t d ds) (pick (ltb c (last (clusters d))))
+    inherited-beside c m = rw (clusters-pairing t d ds) (pick (ltb c (lastCluster (clusters d))))
       where
-        pick : (x : Bool) → cond x (withDone (edit (length (clusters d) - tails (is (last (clusters d))) (clusters d)) (length (clusters d)) (setCluster c m) (pairing t d ds)) (beside t p g ds rs (lone d r k))) (beside t p g ds rs (lone d r k))
-            ≡ beside t p g ds rs (cond x (withDone (edit (length (clusters d) - tails (is (last (clusters d))) (clusters d)) (length (clusters d)) (setCluster c m) d) (lone d r k)) (lone d r k))
-        pick true = same-account (pairing-edit t d ds (setCluster c m) (set-apart c m) (length (clusters d) - tails (is (last (clusters d))) (clusters d)) (length (clusters d)) (omega arith)) refl refl refl
+        pick : (x : Bool) → cond x (withDone (edit (length (clusters d) - tails (is (lastCluster (clusters d))) (clusters d)) (length (clusters d)) (setCluster c m) (pairing t d ds)) (beside t p g ds rs (lone d r k))) (beside t p g ds rs (lone d r k))
+            ≡ beside t p g ds rs (cond x (withDone (edit (length (clusters d) - tails (is (lastCluster (clusters d))) (clusters d)) (length (clusters d)) (setCluster c m) d) (lone d r k)) (lone d r k))
+        pick true = same-account (pairing-edit t d ds (setCluster c m) (set-apart c m) (length (clusters d) - tails (is (lastCluster (clusters d))) (clusters d)) (length (clusters d)) (omega arith)) refl refl refl
         pick false = refl
 
     merged-beside : (s e : ℕ) → s ≤ e → merged s e (beside t p g ds rs (lone d r k)) ≡ beside t p g ds rs (merged s e (lone d r k))

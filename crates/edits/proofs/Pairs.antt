@@ -2,15 +2,9 @@
 use mathlib.Core.{Path._≡_, Path.refl, Path.ap, List.List, List.[], List._∷_}
 use Prim.Native.Nat.{ℕ, zero, suc, _<_}
 use native.Mathlib.Nat.{le-of-suc-le-suc, not-suc-le-zero}
-use lib.ListN.{length, getD, set, replicate}
-use Rattle.records.specs.{Position, Glyphs.Glyph, Glyphs.change, Glyphs.withCluster, Glyphs.withPosition, Glyphs.blank, Glyphs.zeroPosition, Ranges.edit, View.paired}
-use Rattle.edits.specs.{Fills.repositioned, WholeRun.placed, WholeRun.numbered}
-
--- zero glyphs have the position zero already
-pub paired-zeros : (n : ℕ) → paired (replicate n (record { glyph = 0; info = blank 0 })) (replicate n zeroPosition) ≡ replicate n (record { glyph = 0; info = blank 0 })
-unfolding paired change withPosition blank
-paired-zeros zero = refl
-paired-zeros (suc n) = ap {B = List (Glyph ℕ)} (λ r. record { glyph = 0; info = blank 0 } ∷ r) (paired-zeros n)
+use lib.ListN.{length, getD, set}
+use Rattle.records.specs.{Position, Glyphs.Glyph, Glyphs.change, Glyphs.withCluster, Glyphs.withPosition, Glyphs.zeroPosition, Ranges.edit, View.paired}
+use Rattle.edits.specs.{inner.Fills.repositioned, WholeRun.setPosition, WholeRun.numbered}
 
 pub paired-numbered : (k : ℕ) (l : List (Glyph ℕ)) (ps : List Position) → paired (numbered k l) ps ≡ numbered k (paired l ps)
 unfolding paired numbered change withCluster withPosition
@@ -20,8 +14,8 @@ paired-numbered k (g ∷ l) (p ∷ ps) = ap {B = List (Glyph ℕ)} (λ r. change
 
 -- four numbers of one position
 pub paired-placed : (xa ya xo yo i : ℕ) (l : List (Glyph ℕ)) (ps : List Position) → i < length l → i < length ps
-    → paired l (set ps i (repositioned xa ya xo yo (getD ps i zeroPosition))) ≡ edit i (suc i) (placed xa ya xo yo) (paired l ps)
-unfolding paired edit placed repositioned change withPosition
+    → paired l (set ps i (repositioned xa ya xo yo (getD ps i zeroPosition))) ≡ edit i (suc i) (setPosition xa ya xo yo) (paired l ps)
+unfolding paired edit setPosition repositioned change withPosition
 paired-placed xa ya xo yo i [] ps h k = absurd (not-suc-le-zero h)
 paired-placed xa ya xo yo i (g ∷ l) [] h k = absurd (not-suc-le-zero k)
 paired-placed xa ya xo yo zero (g ∷ l) (p ∷ ps) h k = refl

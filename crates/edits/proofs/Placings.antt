@@ -4,19 +4,21 @@ use Prim.Native.Nat.{ℕ, suc, _≤_, _<_, zero-le}
 use native.Mathlib.Omega.{arith}
 use borrow.Author.Tests.{le-leb, lt-leb}
 use lib.{Dec.leb, ListN.length, ListN.take, ListN.drop, ListN.getD, ListN.set, Seq.drop-set-lt}
-use Rattle.records.specs.{Phase, Plain, Output, Positions, Spoiled, InputPlace, Position, Contradiction, WrongPhase, OutOfRange, Done, No, Glyphs.Glyph, Glyphs.Info, Glyphs.zeroPosition, Ranges.edit, View.glyphs, View.placements, View.paired, View.wordsFrom}
-use Rattle.records.proofs.View.{glyphs-same, placements-glyphs, length-paired, beyond-placements, whole-same}
-use Rattle.lists.specs.declared.{Buffer.Buffer, Verdict.Verdict}
-use Rattle.lists.specs.{Account.Account, Account.State, Account.outputPhase, Account.positionsPhase, Account.spoiledPhase, Account.hasPositions, Account.input, Account.len, Account.withInput, Account.withLimits, Results.refused, Results.accepted, Results.refuse_when_else_, State.shown, State.goneOf, State.stateOf, State.accountOf, State.sound, State.Held, States.reply, States.withLimitsOf, Verdicts.Leaves}
+use Rattle.records.specs.{Phase, Plain, Output, Positions, Spoiled, InputPlace, Position, Contradiction, WrongPhase, OutOfRange, Done, No, Glyphs.Glyph, Glyphs.Info, Glyphs.zeroPosition, Ranges.edit, View.glyphs, View.positionsIn, View.paired, View.wordsFrom}
+use Rattle.records.proofs.View.{glyphs-same, positions-glyphs, length-paired, beyond-positions, whole-same}
+use Rattle.lists.specs.{declared.Buffer.Buffer, declared.Verdict.Verdict}
+use Rattle.lists.specs.{Account.Account, Account.State, Account.outputPhase, Account.positionsPhase, Account.spoiledPhase, Account.hasPositions, Account.input, Account.len, Account.withInput, Account.refused, Account.accepted, Contract.goneOf, Contract.stateOf, Contract.accountOf, Contract.sound, inner.Held.Held, inner.States.reply, inner.Verdicts.Leaves}
 use Rattle.lists.proofs.Sides.{MeetsIn}
 use Rattle.lists.proofs.{Accounts.len-of, SoundLaws.sound-held, SoundLaws.held-turned, Accounts.positions-of, Calls.in-accepted, Decisions.near-same, Decisions.decided-unsound, Decisions.decided-refused, Decisions.decided-does}
-use Rattle.edits.specs.{Fills.repositioned, Fills.Placeable, Fills.Placed, Fills.Places, Holding.holds, WholeRun.placed, WholeRun.place}
-use Rattle.lists.proofs.Outputs.{goneIn}
+use Rattle.edits.specs.{inner.Fills.repositioned, inner.Fills.Placeable, inner.Fills.Placed, inner.Fills.Places, inner.Holding.holds, WholeRun.setPosition, WholeRun.place}
+use Rattle.lists.proofs.Outputs.{gone-without}
 use Rattle.lists.proofs.SoundLaws.{soundness}
+use Rattle.lists.proofs.Refusing.{refusing}
 use Rattle.records.proofs.Tests.{tested}
+use Rattle.lists.proofs.Showing.{shown-positions}
+use Rattle.records.proofs.Edited.{edit-take}
 use Rattle.edits.proofs.Bridge.{input-is, holds-input}
-use Rattle.edits.proofs.Holding.{edit-take}
-use Rattle.edits.proofs.MergeCalls.{account-within}
+use Rattle.edits.proofs.MergeCalls.{own-within}
 use Rattle.edits.proofs.Pairs.{paired-placed}
 
 -- ---- phase positions
@@ -32,19 +34,6 @@ no-output Output h = absurd (false≢true h)
 no-output Positions h = refl
 no-output Spoiled h = refl
 
-pub shown-positions : (p : Phase) (run other : List ℕ) → positionsPhase p ≡ true → shown p run other ≡ paired (glyphs run) (placements other)
-unfolding shown
-shown-positions Plain run other h = absurd (false≢true h)
-shown-positions Output run other h = absurd (false≢true h)
-shown-positions Positions run other h = refl
-shown-positions Spoiled run other h = absurd (false≢true h)
-
-gone-none : (p : Phase) (i l : ℕ) → positionsPhase p ≡ true → goneIn p i l ≡ 0
-gone-none Plain i l h = refl
-gone-none Output i l h = absurd (false≢true h)
-gone-none Positions i l h = refl
-gone-none Spoiled i l h = absurd (false≢true h)
-
 -- ---- one glyph of the input has other words
 module _ (h : Info → Info) (l l′ : List (Glyph ℕ)) {i idx len : ℕ} (k : State) (inside : idx ≤ len) (fits : len ≤ length l) (at : i < len) where
   one-edited : l′ ≡ edit i (suc i) h l → holds l′ l′ 0 idx len 0 k ≡ withInput (edit i (suc i) h (input (holds l l 0 idx len 0 k))) (holds l l 0 idx len 0 k)
@@ -58,20 +47,19 @@ module _ {b : Buffer} {run other : List ℕ} (v : Held b run other) (h : positio
   length-is : len (accountOf b run other) ≡ b .len .0
   length-is = len-of b run other v (positions-clean (b .phase) h)
 
-  account-as : (o : List ℕ) → accountOf b run o ≡ holds (paired (glyphs run) (placements o)) (paired (glyphs run) (placements o)) 0 (b .idx .0) (b .len .0) 0 (withLimits (b .limits) (stateOf b))
-  unfolding withLimitsOf goneOf
+  account-as : (o : List ℕ) → accountOf b run o ≡ holds (paired (glyphs run) (positionsIn o)) (paired (glyphs run) (positionsIn o)) 0 (b .idx .0) (b .len .0) 0 (stateOf b)
   account-as o =
-      let k : State = withLimits (b .limits) (stateOf b) in
-      let pairs : List (Glyph ℕ) = paired (glyphs run) (placements o) in
-      account-within b (b .limits) run o (ap (λ (x : Bool). x && b .«have_separate_output») (no-output (b .phase) h)) (v .none)
+      let k : State = stateOf b in
+      let pairs : List (Glyph ℕ) = paired (glyphs run) (positionsIn o) in
+      own-within b run o (ap (λ (x : Bool). x && b .«have_separate_output») (no-output (b .phase) h)) (v .none)
       ∙ (ap (λ (x : List (Glyph ℕ)). holds x x (goneOf b) (b .idx .0) (b .len .0) (b .«out_len» .0) k) (shown-positions (b .phase) run o h)
-      ∙ (ap (λ (g : ℕ). holds pairs pairs g (b .idx .0) (b .len .0) (b .«out_len» .0) k) (gone-none (b .phase) (b .idx .0) (b .len .0) h)
+      ∙ (ap (λ (g : ℕ). holds pairs pairs g (b .idx .0) (b .len .0) (b .«out_len» .0) k) (gone-without b (no-output (b .phase) h) (positions-clean (b .phase) h))
       ∙ ap (λ (n : ℕ). holds pairs pairs 0 (b .idx .0) (b .len .0) n k) (v .none (no-output (b .phase) h))))
 
-  pub placed-room : (i : ℕ) → i < b .len .0 → i < length (placements other)
+  pub placed-room : (i : ℕ) → i < b .len .0 → i < length (positionsIn other)
   placed-room i k =
       let same : length (glyphs run) ≡ length (glyphs other) = glyphs-same run other (v .same) in
-      omega (arith, v .len-in, v .all-in, placements-glyphs other)
+      omega (arith, v .len-in, v .all-in, positions-glyphs other)
 
 -- ---- the call
 pub put-placed : (ps : List Position) (xa ya xo yo i : ℕ) {ps′ : List Position} {p : Position} → p ≡ getD ps i zeroPosition
@@ -82,40 +70,40 @@ put-placed ps xa ya xo yo i {ps′} {p} eg ep = ep ∙ ap (λ (q : Position). se
 module _ (i : InputPlace) (xa ya xo yo : ℕ) where
   module _ (a : Account ℕ) where
     place-none : hasPositions a ≡ false → place i xa ya xo yo a ≡ refused WrongPhase
-    unfolding place refuse_when_else_
-    place-none h = rw h
+    unfolding place
+    place-none h = simp (h, refusing)
 
     place-outside : hasPositions a ≡ true → leb (len a) (i .0) ≡ true → place i xa ya xo yo a ≡ refused OutOfRange
-    unfolding place refuse_when_else_
-    place-outside h k = rw (h, k)
+    unfolding place
+    place-outside h k = simp (h, k, refusing)
 
-    place-inside : hasPositions a ≡ true → leb (len a) (i .0) ≡ false → place i xa ya xo yo a ≡ accepted (withInput (edit (i .0) (suc (i .0)) (placed xa ya xo yo) (input a)) a)
-    unfolding place refuse_when_else_
-    place-inside h k = rw (h, k)
+    place-inside : hasPositions a ≡ true → leb (len a) (i .0) ≡ false → place i xa ya xo yo a ≡ accepted (withInput (edit (i .0) (suc (i .0)) (setPosition xa ya xo yo) (input a)) a)
+    unfolding place
+    place-inside h k = simp (h, k, refusing)
 
   module _ {b : Buffer} {run other : List ℕ} (v : Held b run other) (h : positionsPhase (b .phase) ≡ true) where
     place-beyond : b .len .0 ≤ i .0 → place i xa ya xo yo (accountOf b run other) ≡ refused OutOfRange
     place-beyond k = place-outside _ (positions-of b run other ∙ h) (ap (λ (n : ℕ). leb n (i .0)) (length-is v h) ∙ le-leb (b .len .0) (i .0) k)
 
-    place-done : {other′ : List ℕ} → i .0 < b .len .0 → length other′ ≡ length other → placements other′ ≡ set (placements other) (i .0) (repositioned xa ya xo yo (getD (placements other) (i .0) zeroPosition))
+    place-done : {other′ : List ℕ} → i .0 < b .len .0 → length other′ ≡ length other → positionsIn other′ ≡ set (positionsIn other) (i .0) (repositioned xa ya xo yo (getD (positionsIn other) (i .0) zeroPosition))
         → MeetsIn (λ capacity a. place i xa ya xo yo a) b run other (reply b Done) run other′
     place-done {other′} k lo e =
         let n : ℕ = b .limits .allocated in
         let gs : List (Glyph ℕ) = glyphs run in
-        let ps : List Position = placements other in
+        let ps : List Position = positionsIn other in
         let room : i .0 < length gs = omega (arith, v .len-in, v .all-in) in
         let fits : b .len .0 ≤ length (paired gs ps) = rw (length-paired gs ps) (omega (arith, v .len-in, v .all-in)) in
-        let pairs : paired gs (placements other′) ≡ edit (i .0) (suc (i .0)) (placed xa ya xo yo) (paired gs ps) =
+        let pairs : paired gs (positionsIn other′) ≡ edit (i .0) (suc (i .0)) (setPosition xa ya xo yo) (paired gs ps) =
         ap (paired gs) e ∙ paired-placed xa ya xo yo (i .0) gs ps room (placed-room v h (i .0) k) in
         let behind : wordsFrom n other ≡ wordsFrom n other′ =
-        beyond-placements n other other′ (whole-same run other (v .same) (v .whole)) (sym lo) (sym (ap (drop n) e ∙ drop-set-lt n ps (i .0) _ (omega (arith, v .len-in)))) in
+        beyond-positions n other other′ (whole-same run other (v .same) (v .whole)) (sym lo) (sym (ap (drop n) e ∙ drop-set-lt n ps (i .0) _ (omega (arith, v .len-in)))) in
         in-accepted b refl refl (sym behind) v
         (place-inside _ (positions-of b run other ∙ h) (ap (λ (m : ℕ). leb m (i .0)) (length-is v h) ∙ lt-leb (b .len .0) (i .0) k)
         ∙ ap accepted
         (sym
         (account-as v h other′
-        ∙ (one-edited (placed xa ya xo yo) (paired gs ps) (paired gs (placements other′)) (withLimits (b .limits) (stateOf b)) (v .idx-in) fits k pairs
-        ∙ ap (λ (a : Account ℕ). withInput (edit (i .0) (suc (i .0)) (placed xa ya xo yo) (input a)) a) (sym (account-as v h other))))))
+        ∙ (one-edited (setPosition xa ya xo yo) (paired gs ps) (paired gs (positionsIn other′)) (stateOf b) (v .idx-in) fits k pairs
+        ∙ ap (λ (a : Account ℕ). withInput (edit (i .0) (suc (i .0)) (setPosition xa ya xo yo) (input a)) a) (sym (account-as v h other))))))
         refl
 
 -- ---- its verdict
@@ -143,7 +131,7 @@ module _ {i : InputPlace} {b : Buffer} {f s : List ℕ} {v : Verdict} where
   pub place-asked : Places i b f s v → v .acts ≡ true → Placeable (i .0) f s
   place-asked w t = w .is 0 0 0 0 .asked t
 
-pub was-placed : {i xa ya xo yo : ℕ} {run other other′ : List ℕ} → placements other′ ≡ set (placements other) i (repositioned xa ya xo yo (getD (placements other) i zeroPosition)) → Placed i xa ya xo yo run other run other′
+pub was-placed : {i xa ya xo yo : ℕ} {run other other′ : List ℕ} → positionsIn other′ ≡ set (positionsIn other) i (repositioned xa ya xo yo (getD (positionsIn other) i zeroPosition)) → Placed i xa ya xo yo run other run other′
 was-placed e = record { run-is = refl; other-is = e }
 
 -- for the proofs of functions

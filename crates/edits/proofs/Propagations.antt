@@ -4,15 +4,18 @@ use Prim.Native.Nat.{ℕ, suc, _+_, _-_, _%_, _≤_, _<_, zero-le}
 use native.Mathlib.Nat.{le-refl}
 use native.Mathlib.Omega.{arith}
 use lib.{Bits.bitOr, Bits.or-zero-r, ListN.take, ListN.drop, ListN.length, ListN.getD, ListN.set, Seq.slice, Seq.slice-empty, Seq.slice-cons}
-use Rattle.records.specs.{Phase, Plain, Glyphs.Glyph, Glyphs.Info, Glyphs.change, Glyphs.withMask, Glyphs.withPosition, Ranges.infos, Ranges.clusters, Ranges.edit, Ranges.heads, Ranges.is, View.glyphs, View.zeroGlyph}
+use Rattle.records.specs.{Phase, Plain, Glyphs.Glyph, Glyphs.Info, Glyphs.change, Glyphs.withMask, Ranges.infos, Ranges.clusters, Ranges.edit, Ranges.heads, Ranges.is, View.glyphs, inner.Stores.zeroGlyph}
 use Rattle.records.proofs.View.{glyphs-same}
-use Rattle.lists.specs.declared.{Buffer.Buffer, Verdict.Verdict}
-use Rattle.lists.specs.{Account.spoiledPhase, Account.withRest, Masks.joinedLow, Results.accepted, Results.refuse_when_else_, State.shown, State.accountOf, Verdicts.Decided}
-use Rattle.lists.specs.Verdicts as verdicts
+use Rattle.lists.specs.{declared.Buffer.Buffer, declared.Verdict.Verdict}
+use Rattle.lists.specs.{Account.spoiledPhase, Account.withRest, inner.Masks.joinedLow, Account.accepted, Contract.shown, Contract.accountOf, inner.Verdicts.Decided}
+use Rattle.lists.specs.inner.Verdicts as verdicts
 use Rattle.lists.proofs.{Accounts.wants-of, Editing.edit-up, Editing.edit-empty, Infos.length-words, Infos.word-of, Infos.map-take, Infos.map-drop, Infos.words-edit}
-use Rattle.edits.specs.{Groups.sizes, Groups.sameCluster, Groups.joined, Groups.settled, Groups.propagated, Groups.propagateFlags, Wholes.WholeInput, Wholes.RunOf, Wholes.TakesWhole, Propagating.Propagates, Propagating.PropagatesRun}
+use Rattle.lists.proofs.Refusing.{refusing}
+use Rattle.edits.specs.{Groups.groupSizes, Groups.sameCluster, Groups.joined, Groups.settledMask, Groups.propagated, Groups.propagateFlags, inner.Wholes.WholeInput, inner.Wholes.RunOf, inner.Wholes.TakesWhole, inner.Propagating.Propagates, inner.Propagating.PropagatesRun}
 use Rattle.records.proofs.Pairs.{mask-alone}
-use Rattle.edits.proofs.{Holding.edit-take, Holding.edit-drop-behind, Holding.slice-take, Places.Apart, Places.shown-edit, WholeInputs.whole-acts, MergeCalls.in-acts, WholeInputs.not-not-whole, WholeCalls.OnRun, WholeCalls.takes-decided, GroupLaws.Group, GroupLaws.no-group, GroupLaws.cluster-group, GroupLaws.clusters-same, GroupLaws.seen-words}
+use Rattle.records.proofs.Apart.{mask-apart, mask-cluster}
+use Rattle.records.proofs.Edited.{edit-take, edit-drop-behind}
+use Rattle.edits.proofs.{Holding.slice-take, Places.shown-edit, WholeInputs.whole-acts, MergeCalls.in-acts, WholeInputs.not-not-whole, WholeCalls.OnRun, WholeCalls.takes-decided, GroupLaws.Group, GroupLaws.no-group, GroupLaws.cluster-group, GroupLaws.clusters-same, GroupLaws.seen-words}
 
 -- ---- masks
 abbrev pub maskOf : Info → ℕ
@@ -23,28 +26,20 @@ unfolding joined joinedLow
 joined-low [] = refl
 joined-low (i ∷ l) = ap (bitOr (i .mask % 8)) (joined-low l)
 
-pub group-filled : (run run′ : List ℕ) (s e wants : ℕ) {x m : ℕ} → x ≡ joinedLow (slice s e (map maskOf (infos (glyphs run)))) → m ≡ settled wants x → glyphs run′ ≡ edit s e (withMask m) (glyphs run)
-    → glyphs run′ ≡ edit s e (withMask (settled wants (joinedLow (slice s e (map maskOf (infos (glyphs run))))))) (glyphs run)
+pub group-filled : (run run′ : List ℕ) (s e wants : ℕ) {x m : ℕ} → x ≡ joinedLow (slice s e (map maskOf (infos (glyphs run)))) → m ≡ settledMask wants x → glyphs run′ ≡ edit s e (withMask m) (glyphs run)
+    → glyphs run′ ≡ edit s e (withMask (settledMask wants (joinedLow (slice s e (map maskOf (infos (glyphs run))))))) (glyphs run)
 group-filled run run′ s e wants ex em eg = eg ∙ rw (em, ex)
 
-mask-apart : (m : ℕ) → Apart (withMask m)
-unfolding Apart withMask withPosition
-mask-apart m p i = refl
-
-mask-cluster : (m : ℕ) (i : Info) → (withMask m i) .cluster ≡ i .cluster
-unfolding withMask
-mask-cluster m i = refl
-
 -- a group of one glyph
-pub one-masked : (l : List (Glyph ℕ)) (s wants : ℕ) {l′ : List (Glyph ℕ)} {x m : ℕ} → x ≡ getD l s zeroGlyph .info .mask → m ≡ settled wants (x % 8) → l′ ≡ set l s (change (withMask m) (getD l s zeroGlyph))
-    → l′ ≡ set l s (change (withMask (settled wants (getD l s zeroGlyph .info .mask % 8))) (getD l s zeroGlyph))
+pub one-masked : (l : List (Glyph ℕ)) (s wants : ℕ) {l′ : List (Glyph ℕ)} {x m : ℕ} → x ≡ getD l s zeroGlyph .info .mask → m ≡ settledMask wants (x % 8) → l′ ≡ set l s (change (withMask m) (getD l s zeroGlyph))
+    → l′ ≡ set l s (change (withMask (settledMask wants (getD l s zeroGlyph .info .mask % 8))) (getD l s zeroGlyph))
 one-masked l s wants ex em el = el ∙ rw (em, ex)
 
 pub one-inside : {s e : ℕ} (run : List ℕ) → e - s ≡ 1 → e ≤ length (glyphs run) → s < length (glyphs run)
 one-inside run ee f = omega arith
 
-pub one-filled : (run run′ : List ℕ) (s e wants : ℕ) → e - s ≡ 1 → e ≤ length (glyphs run) → glyphs run′ ≡ set (glyphs run) s (change (withMask (settled wants (getD (glyphs run) s zeroGlyph .info .mask % 8))) (getD (glyphs run) s zeroGlyph))
-    → glyphs run′ ≡ edit s e (withMask (settled wants (joinedLow (slice s e (map maskOf (infos (glyphs run))))))) (glyphs run)
+pub one-filled : (run run′ : List ℕ) (s e wants : ℕ) → e - s ≡ 1 → e ≤ length (glyphs run) → glyphs run′ ≡ set (glyphs run) s (change (withMask (settledMask wants (getD (glyphs run) s zeroGlyph .info .mask % 8))) (getD (glyphs run) s zeroGlyph))
+    → glyphs run′ ≡ edit s e (withMask (settledMask wants (joinedLow (slice s e (map maskOf (infos (glyphs run))))))) (glyphs run)
 unfolding joinedLow
 one-filled run run′ s e wants ee fits eg =
     let l : List (Glyph ℕ) = glyphs run in
@@ -54,15 +49,15 @@ one-filled run run′ s e wants ee fits eg =
     let long : length ms ≡ length l = length-words maskOf l in
     let masks : slice s (suc s) ms ≡ getD ms s 0 ∷ [] = slice-cons s (suc s) ms 0 (omega arith) (omega arith) ∙ ap (λ (r : List ℕ). getD ms s 0 ∷ r) (slice-empty (suc s) ms) in
     let low : getD l s zeroGlyph .info .mask % 8 ≡ joinedLow (slice s (suc s) ms) = ap (λ (y : ℕ). y % 8) (word-of maskOf l s 0 inside) ∙ (sym (or-zero-r (getD ms s 0 % 8)) ∙ sym (ap joinedLow masks)) in
-    let m : ℕ = settled wants (getD l s zeroGlyph .info .mask % 8) in
+    let m : ℕ = settledMask wants (getD l s zeroGlyph .info .mask % 8) in
     let one : edit s (suc s) (withMask m) l ≡ set l s (change (withMask m) (getD l s zeroGlyph)) = edit-up (withMask m) zeroGlyph s s l (le-refl s) inside ∙ ap (λ (k : List (Glyph ℕ)). set k s (change (withMask m) (getD l s zeroGlyph))) (edit-empty (withMask m) s l) in
-    rw next (eg ∙ (sym one ∙ ap (λ (n : ℕ). edit s (suc s) (withMask (settled wants n)) l) low))
+    rw next (eg ∙ (sym one ∙ ap (λ (n : ℕ). edit s (suc s) (withMask (settledMask wants n)) l) low))
 
 -- ---- the loop: groups before s have their masks, those from s on are still to get them
 abbrev seenRun : Phase → ℕ → (run other : List ℕ) → List (Glyph ℕ)
 seenRun p n run other = take n (shown p run other)
 
-one-more : (wants n : ℕ) (ns : List ℕ) (s : ℕ) (l : List (Glyph ℕ)) → propagated wants (n ∷ ns) s l ≡ propagated wants ns (s + n) (edit s (s + n) (withMask (settled wants (joined (slice s (s + n) (infos l))))) l)
+one-more : (wants n : ℕ) (ns : List ℕ) (s : ℕ) (l : List (Glyph ℕ)) → propagated wants (n ∷ ns) s l ≡ propagated wants ns (s + n) (edit s (s + n) (withMask (settledMask wants (joined (slice s (s + n) (infos l))))) l)
 unfolding propagated
 one-more wants n ns s l = refl
 
@@ -75,8 +70,8 @@ pub record Spread (wants n : ℕ) (run run′ : List ℕ) (s : ℕ) : Type 0 whe
   pub fits : n ≤ length (glyphs run′)
   pub high : s ≤ n
   pub behind : drop n (glyphs run′) ≡ drop n (glyphs run)
-  pub is : (p : Phase) (other : List ℕ) → spoiledPhase p ≡ false → propagated wants (sizes sameCluster (drop s (infos (seenRun p n run′ other)))) s (seenRun p n run′ other)
-      ≡ propagated wants (sizes sameCluster (infos (seenRun p n run other))) 0 (seenRun p n run other)
+  pub is : (p : Phase) (other : List ℕ) → spoiledPhase p ≡ false → propagated wants (groupSizes sameCluster (drop s (infos (seenRun p n run′ other)))) s (seenRun p n run′ other)
+      ≡ propagated wants (groupSizes sameCluster (infos (seenRun p n run other))) 0 (seenRun p n run other)
 
 module _ {wants n : ℕ} {run : List ℕ} where
   pub spread-none : n ≤ length (glyphs run) → Spread wants n run run 0
@@ -111,30 +106,30 @@ module _ {wants n : ℕ} {run : List ℕ} where
             ∙ (ap (slice s e) (seen-words p run′ other k (v .fits) maskOf mask-alone)
             ∙ slice-take s e n (map maskOf (infos (glyphs run′))) inside)))
 
-        group-mask : settled wants (joinedLow (slice s e (map maskOf (infos (glyphs run′))))) ≡ settled wants (joined (slice s e (infos (seenRun p n run′ other))))
-        group-mask = ap (settled wants) (ap joinedLow masks-seen ∙ sym (joined-low (slice s e (infos (seenRun p n run′ other)))))
+        group-mask : settledMask wants (joinedLow (slice s e (map maskOf (infos (glyphs run′))))) ≡ settledMask wants (joined (slice s e (infos (seenRun p n run′ other))))
+        group-mask = ap (settledMask wants) (ap joinedLow masks-seen ∙ sym (joined-low (slice s e (infos (seenRun p n run′ other)))))
 
       pub spread-more : {run″ : List ℕ} → length run″ ≡ length run′
-          → glyphs run″ ≡ edit s e (withMask (settled wants (joinedLow (slice s e (map maskOf (infos (glyphs run′))))))) (glyphs run′) → Spread wants n run run″ e
+          → glyphs run″ ≡ edit s e (withMask (settledMask wants (joinedLow (slice s e (map maskOf (infos (glyphs run′))))))) (glyphs run′) → Spread wants n run run″ e
       spread-more {run″} lr eg = record {
         same-run = lr ∙ v .same-run;
         fits = rw (glyphs-same run″ run′ lr) (v .fits);
         high = inside;
-        behind = (ap (drop n) eg ∙ edit-drop-behind (withMask (settled wants (joinedLow (slice s e (map maskOf (infos (glyphs run′))))))) s e n (glyphs run′) group-order inside) ∙ v .behind;
+        behind = (ap (drop n) eg ∙ edit-drop-behind (withMask (settledMask wants (joinedLow (slice s e (map maskOf (infos (glyphs run′))))))) s e n (glyphs run′) group-order inside) ∙ v .behind;
         is = λ p other k.
             let L : List (Glyph ℕ) = seenRun p n run′ other in
             let L′ : List (Glyph ℕ) = seenRun p n run″ other in
-            let m : ℕ = settled wants (joined (slice s e (infos L))) in
+            let m : ℕ = settledMask wants (joined (slice s e (infos L))) in
             let first : s < e = after in
             let on : s + (e - s) ≡ e = omega arith in
             let edited : glyphs run″ ≡ edit s e (withMask m) (glyphs run′) = eg ∙ ap (λ (x : ℕ). edit s e (withMask x) (glyphs run′)) (group-mask p other k) in
             let seen : L′ ≡ edit s e (withMask m) L =
             ap (take n) (shown-edit (withMask m) (mask-apart m) s e p run′ run″ other group-order k edited) ∙ edit-take (withMask m) s e n (shown p run′ other) group-order inside in
-            let later : sizes sameCluster (drop e (infos L′)) ≡ sizes sameCluster (drop e (infos L)) =
+            let later : groupSizes sameCluster (drop e (infos L′)) ≡ groupSizes sameCluster (drop e (infos L)) =
             clusters-same e (infos L′) (infos L) (ap (λ (l : List (Glyph ℕ)). map (λ i. i .cluster) (infos l)) seen ∙ words-edit (λ i. i .cluster) (withMask m) (mask-cluster m) s e L group-order) in
             ap₂ (λ (ns : List ℕ) (l : List (Glyph ℕ)). propagated wants ns e l) later seen
-            ∙ (ap (λ (x : ℕ). propagated wants (sizes sameCluster (drop e (infos L))) x (edit s x (withMask (settled wants (joined (slice s x (infos L))))) L)) (sym on)
-            ∙ (sym (ap (λ (ns : List ℕ). propagated wants ns s L) (group-at p other k .is) ∙ one-more wants (e - s) (sizes sameCluster (drop e (infos L))) s L) ∙ v .is p other k));
+            ∙ (ap (λ (x : ℕ). propagated wants (groupSizes sameCluster (drop e (infos L))) x (edit s x (withMask (settledMask wants (joined (slice s x (infos L))))) L)) (sym on)
+            ∙ (sym (ap (λ (ns : List ℕ). propagated wants ns s L) (group-at p other k .is) ∙ one-more wants (e - s) (groupSizes sameCluster (drop e (infos L))) s L) ∙ v .is p other k));
       }
 
     pub spread-done : n ≤ s → Propagates wants n run run′
@@ -144,7 +139,7 @@ module _ {wants n : ℕ} {run : List ℕ} where
         record {
           behind = v .behind;
           is = λ p other k.
-              let none : sizes sameCluster (drop s (infos (seenRun p n run′ other))) ≡ [] = rw end (no-group p run′ other k (v .fits) sameCluster) in
+              let none : groupSizes sameCluster (drop s (infos (seenRun p n run′ other))) ≡ [] = rw end (no-group p run′ other k (v .fits) sameCluster) in
               sym (ap (λ (ns : List ℕ). propagated wants ns s (seenRun p n run′ other)) none ∙ no-more wants s (seenRun p n run′ other)) ∙ v .is p other k;
         }
 
@@ -153,17 +148,17 @@ propagates-run w = record { run-does = w; other-is = refl }
 
 -- ---- the call
 propagate-accepts : {b : Buffer} {run other : List ℕ} → WholeInput b run other
-    → propagateFlags (accountOf b run other) ≡ accepted (withRest (propagated (b .wants) (sizes sameCluster (infos ((accountOf b run other) .rest))) 0 ((accountOf b run other) .rest)) (accountOf b run other))
-unfolding propagateFlags refuse_when_else_
-propagate-accepts {b} {run} {other} w = rw (not-not-whole w, wants-of b run other)
+    → propagateFlags (accountOf b run other) ≡ accepted (withRest (propagated (b .wants) (groupSizes sameCluster (infos ((accountOf b run other) .rest))) 0 ((accountOf b run other) .rest)) (accountOf b run other))
+unfolding propagateFlags
+propagate-accepts {b} {run} {other} w = simp (not-not-whole w, wants-of b run other, refusing)
 
 on-run-propagate : (b : Buffer) → OnRun (λ capacity a. propagateFlags a) b (PropagatesRun (b .wants) (b .len .0))
-unfolding propagateFlags refuse_when_else_
+unfolding propagateFlags
 on-run-propagate b = record {
-  whole = record { refuses = λ capacity a h. rw h };
+  whole = record { refuses = λ capacity a h. simp (h, refusing) };
   done = λ run other run′ other′ w lr lo act.
       let d = act .run-does in
-      rw (act .other-is) (in-acts (whole-acts w lr refl (d .behind) refl (λ l. propagated (b .wants) (sizes sameCluster (infos l)) 0 l) (d .is (b .phase) other (w .clean))) (propagate-accepts w) refl);
+      rw (act .other-is) (in-acts (whole-acts w lr refl (d .behind) refl (λ l. propagated (b .wants) (groupSizes sameCluster (infos l)) 0 l) (d .is (b .phase) other (w .clean))) (propagate-accepts w) refl);
 }
 
 pub propagate-decided : {b : Buffer} {f s : List ℕ} {v : Verdict} → TakesWhole b f s v → Decided (λ capacity a. propagateFlags a) b f s (verdicts.settled b v) (v .acts) (RunOf (b .phase) (b .len .0) f s) (PropagatesRun (b .wants) (b .len .0))

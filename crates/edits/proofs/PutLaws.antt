@@ -5,13 +5,15 @@ use native.Mathlib.Omega.{arith}
 use borrow.Author.Tests.{le-ltb, lt-ltb, ltb-false}
 use lib.ListN.{length, take, drop, getD, set}
 use lib.Seq.{slice, drop-drop, length-paste}
-use Rattle.records.specs.{Glyphs.Glyph, Ranges.copies, View.glyphs, View.seen, View.zeroGlyph}
-use Rattle.records.specs.declared.{Glyph.Glyph as Words}
+use Rattle.records.specs.{Glyphs.Glyph, Ranges.copies, View.glyphs, View.seen, inner.Stores.zeroGlyph}
+use Rattle.records.specs.declared.GlyphInfo.{GlyphInfo}
 use Rattle.records.proofs.View.{glyphs-same, whole-same, seen-number}
-use Rattle.lists.specs.declared.{Buffer.Buffer}
-use Rattle.lists.specs.{Account.Account, Account.outputPhase, Account.withGone, Copied.copied, Cursor.dropping, State.accountOf, State.Held, States.atPlaces, States.apartBuffer, Verdicts.Sided}
+use Rattle.records.proofs.Edited.{copies-one}
+use Rattle.lists.proofs.Changed.{changed, output-apart, held-places, held-apart}
+use Rattle.lists.specs.declared.Buffer.{Buffer}
+use Rattle.lists.specs.{Account.Account, Account.outputPhase, Account.withGone, inner.Copied.copied, Cursor.dropping, Contract.accountOf, inner.Held.Held, inner.Verdicts.Sided}
 use Rattle.lists.proofs.{Copying.copied-none, Copying.copied-more, Copying.take-copied, Copying.drop-copied, Copying.range-same, Outputs.output, Outputs.output-cong, Outputs.output-places, Outputs.output-account, Outputs.beyond}
-use Rattle.edits.specs.{Acts.Acts, MergeActs.Merges, Puts.overtakes, Puts.Puttable, Puts.Wrote, Puts.Replaceable, Puts.Replaces, Puts.modelAt, Puts.Modelled, Puts.Outputs, Writing.written}
+use Rattle.edits.specs.{inner.Acts.Acts, inner.MergeActs.Merges, inner.Puts.overtakes, inner.Puts.Puttable, inner.Puts.Wrote, inner.Puts.Replaceable, inner.Puts.Replaces, inner.Puts.modelAt, inner.Puts.Modelled, inner.Puts.Outputs, Writing.written}
 use Rattle.edits.proofs.WriteForms.{Roomy, putBuffer}
 
 -- ---- where the glyphs went
@@ -70,17 +72,16 @@ module _ {u : Glyph ℕ} {separate : Bool} {i l o : ℕ} {run other : List ℕ} 
 
   pub outputs-of : {apart own : Bool} {r : Glyph ℕ} {x number : ℕ} {run′ other′ : List ℕ} → Modelled separate i l o run other u → x ≡ cond own (u .glyph) number → r ≡ record { glyph = x; info = u .info } → Wrote separate apart o (r ∷ []) 1 run other run′ other′
       → Outputs separate apart own i l o number run other run′ other′
-  unfolding copies
   outputs-of {apart} {own} {r} {x} {number} {run′} {other′} eg ex er w =
       let m : Glyph ℕ = modelAt separate i l o run other in
       let en : x ≡ cond own (m .glyph) number = ex ∙ ap (λ (t : Glyph ℕ). cond own (t .glyph) number) (eg .is) in
       let e : r ≡ record { glyph = cond own (m .glyph) number; info = m .info } = er ∙ (λ k. record { glyph = en k; info = eg .is k .info }) in
-      record { is = subst (λ (y : Glyph ℕ). Wrote separate apart o (y ∷ []) 1 run other run′ other′) e w }
+      record { is = rw copies-one (subst (λ (y : Glyph ℕ). Wrote separate apart o (y ∷ []) 1 run other run′ other′) e w) }
 
-pub own-number : {own : Bool} (g : Words) (number : ℕ) → own ≡ true → g .glyph ≡ cond own (seen g .glyph) number
+pub own-number : {own : Bool} (g : GlyphInfo) (number : ℕ) → own ≡ true → g .glyph ≡ cond own (seen g .glyph) number
 own-number g number h = rw h (sym (seen-number g))
 
-pub other-number : {own : Bool} (g : Words) (number : ℕ) → own ≡ false → number ≡ cond own (seen g .glyph) number
+pub other-number : {own : Bool} (g : GlyphInfo) (number : ℕ) → own ≡ false → number ≡ cond own (seen g .glyph) number
 other-number g number h = rw h
 
 -- ---- n elements of a list went to place o of the output, which lies apart (s), moved there (x) or lies in the run
@@ -134,9 +135,9 @@ module _ (b : Buffer) (m n : ℕ) where
 
   put-account : (x : Bool) (run other : List ℕ) → outputPhase (b .phase) ≡ true
       → accountOf (putBuffer x m n b) run other ≡ output b (b .idx .0 + m) (take (b .«out_len» .0 + n) (cond (b .«have_separate_output» || x) (glyphs other) (glyphs run))) (slice (b .idx .0 + m) (b .len .0) (glyphs run))
-  unfolding putBuffer atPlaces apartBuffer
+  unfolding putBuffer
   put-account true run other h =
-      output-places (apartBuffer b) (b .idx .0 + m) (b .len .0) (b .«out_len» .0 + n) run other h
+      output-apart b (b .idx .0 + m) (b .len .0) (b .«out_len» .0 + n) run other h
       ∙ output-cong b refl (ap (λ (s : Bool). take (b .«out_len» .0 + n) (cond s (glyphs other) (glyphs run))) (sym (or-true (b .«have_separate_output»)))) refl
   put-account false run other h =
       output-places b (b .idx .0 + m) (b .len .0) (b .«out_len» .0 + n) run other h
@@ -144,28 +145,28 @@ module _ (b : Buffer) (m n : ℕ) where
 
 module _ {b : Buffer} {m n : ℕ} {run other : List ℕ} (v : Roomy b m n run other) (x : Bool) (q : b .«have_separate_output» ≡ false → x ≡ false → b .«out_len» .0 + n ≤ b .idx .0 + m) where
   put-held : Held (putBuffer x m n b) run other
-  unfolding putBuffer atPlaces apartBuffer
+  unfolding putBuffer
   put-held = by x refl
     where
       by : (y : Bool) → x ≡ y → Held (putBuffer y m n b) run other
-      by true e = record { idx-in = v .in-len; len-in = v .held .len-in; out-in = v .in-size; all-in = v .held .all-in; most = v .held .most; same = v .held .same; whole = v .held .whole; behind = λ p s. absurd (false≢true (sym s)); none = λ p. absurd (false≢true (sym p ∙ v .output)) }
-      by false e = record { idx-in = v .in-len; len-in = v .held .len-in; out-in = v .in-size; all-in = v .held .all-in; most = v .held .most; same = v .held .same; whole = v .held .whole; behind = λ p s. q s e; none = λ p. absurd (false≢true (sym p ∙ v .output)) }
+      by true e = held-apart (v .held) _ _ _ (v .in-len) (v .held .len-in) (v .in-size) (λ p. absurd (false≢true (sym p ∙ v .output)))
+      by false e = held-places (v .held) _ _ _ (v .in-len) (v .held .len-in) (v .in-size) (λ p s. q s e) (λ p. absurd (false≢true (sym p ∙ v .output)))
 
   put-limits : (putBuffer x m n b) .limits ≡ b .limits
-  unfolding putBuffer atPlaces apartBuffer
+  unfolding putBuffer
   put-limits = by x
     where
       by : (y : Bool) → (putBuffer y m n b) .limits ≡ b .limits
-      by true = refl
-      by false = refl
+      by true = simp changed
+      by false = simp changed
 
   put-side : (putBuffer x m n b) .swapped ≡ b .swapped
-  unfolding putBuffer atPlaces apartBuffer
+  unfolding putBuffer
   put-side = by x
     where
       by : (y : Bool) → (putBuffer y m n b) .swapped ≡ b .swapped
-      by true = refl
-      by false = refl
+      by true = simp changed
+      by false = simp changed
 
   module _ {new : List (Glyph ℕ)} {run′ other′ : List ℕ} (many : n ≤ length new) (w : Wrote (b .«have_separate_output») x (b .«out_len» .0) new n run other run′ other′) where
     room-run : b .«out_len» .0 + n ≤ length (glyphs run)

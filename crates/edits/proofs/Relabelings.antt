@@ -6,20 +6,23 @@ use native.Mathlib.Numerals.{add-one}
 use native.Mathlib.Omega.{arith}
 use borrow.Author.Tests.{eq-eqb, ne-eqb, le-leb, lt-leb}
 use lib.{Bits.bitAnd, Bits.bitOr, Dec.leb, Dec.ltb, ListN.length, ListN.take, ListN.drop, ListN.getD, ListN.set, ListN.length-take, ListN.drop-of-length-le, Seq.set-getD, Seq.take-all, Seq.take-at, Seq.drop-at, Seq.length-take-le}
-use Rattle.records.specs.{Phase, Plain, Output, Positions, Spoiled, Limits, Position, Contradiction, WrongPhase, Done, No, Glyphs.Glyph, Glyphs.Info, Glyphs.change, Glyphs.withMask, Glyphs.withCluster, Glyphs.withPosition, Counters.costs, Ranges.is, Ranges.edit, Ranges.clusters, View.glyphs, View.placements, View.paired, View.zeroGlyph}
+use Rattle.records.specs.{Phase, Limits, Position, Contradiction, WrongPhase, Done, No, Glyphs.Glyph, Glyphs.Info, Glyphs.change, Glyphs.withMask, Glyphs.withCluster, Glyphs.withPosition, Counters.costs, Ranges.is, Ranges.edit, Ranges.clusters, View.glyphs, View.positionsIn, View.paired, inner.Stores.zeroGlyph}
 use Rattle.records.proofs.View.{glyphs-same, cluster-of}
 use Rattle.records.proofs.Pairs.{paired-take}
-use Rattle.lists.specs.declared.{Buffer.Buffer, Verdict.Verdict}
-use Rattle.lists.specs.{Account.Account, Account.spoiledPhase, Account.len, Account.limiting, Account.paying, Account.withRest, Results.accepted, Results.refuse_when_else_, State.shown, State.accountOf, State.sound, States.reply, States.withLimitsOf, Verdicts.Leaves, Verdicts.settled, Verdicts.Decided}
+use Rattle.lists.proofs.Showing.{on-shown}
+use Rattle.records.proofs.Apart.{Apart}
+use Rattle.records.proofs.Edited.{edit-take, edit-drop-behind}
+use Rattle.lists.specs.{declared.Buffer.Buffer, declared.Verdict.Verdict}
+use Rattle.lists.specs.{Account.Account, Account.spoiledPhase, Account.len, Account.paying, Account.withRest, Account.accepted, Contract.shown, Contract.accountOf, Contract.sound, inner.States.reply, inner.States.withLimitsOf, inner.Verdicts.Leaves, inner.Verdicts.settled, inner.Verdicts.Decided}
 use Rattle.lists.proofs.Sides.{MeetsIn}
-use Rattle.lists.proofs.{Accounts.len-of, Accounts.limited-of}
+use Rattle.lists.proofs.{Accounts.len-of, Inner.paying-of}
 use Rattle.lists.proofs.Decisions.{near-same, near-limits, leaves-as, accepts, decided-unsound, decided-refused, decided-accepted, decided-does}
 use Rattle.lists.proofs.SoundLaws.{soundness}
-use Rattle.edits.specs.{WholeRun.notWhole, WholeRun.masked, WholeRun.setMasks, WholeRun.numbered, WholeRun.resetClusters, Wholes.WholeInput, Wholes.RunOf, Wholes.TakesWhole, Wholes.RunBecomes, Relabels.SetsMasks}
-use Rattle.edits.proofs.Holding.{edit-take, edit-drop-behind}
+use Rattle.lists.proofs.Refusing.{refusing}
+use Rattle.edits.specs.{WholeRun.notWhole, WholeRun.masked, WholeRun.setMasks, WholeRun.numbered, WholeRun.resetClusters, inner.Wholes.WholeInput, inner.Wholes.RunOf, inner.Wholes.TakesWhole, inner.Wholes.RunBecomes, inner.Relabels.SetsMasks}
 use Rattle.edits.proofs.MergeCalls.{acts-paid, in-acts}
 use Rattle.edits.proofs.Pairs.{paired-numbered}
-use Rattle.edits.proofs.Places.{Apart, shown-edit}
+use Rattle.edits.proofs.Places.{shown-edit}
 use Rattle.edits.proofs.WholeInputs.{wholeTest, not-not-whole, whole-is, whole-acts}
 use Rattle.edits.proofs.WholeCalls.{OnWhole, OnRun, whole-refuses, lying-whole, sound-whole, whole-room, whole-run, run-second, takes-decided}
 
@@ -85,29 +88,28 @@ module _ (h : Info → Info) (a : Apart h) (n : ℕ) (run run′ other : List �
 -- ---- set_masks
 module _ (value mask s e : ℕ) where
   on-whole-masks : OnWhole (λ capacity a. setMasks value mask s e a)
-  unfolding setMasks refuse_when_else_
-  on-whole-masks = record { refuses = λ capacity a h. rw h }
+  unfolding setMasks
+  on-whole-masks = record { refuses = λ capacity a h. simp (h, refusing) }
 
   module _ (a : Account ℕ) where
     masks-nothing : notWhole a ≡ false → mask ≡ 0 → setMasks value mask s e a ≡ accepted a
-    unfolding setMasks refuse_when_else_
-    masks-nothing h k = rw (h, eq-eqb mask 0 k)
+    unfolding setMasks
+    masks-nothing h k = simp (h, eq-eqb mask 0 k, refusing)
 
     masks-some : notWhole a ≡ false → (mask ≡ 0 → ⊥) → (n : ℕ) → len a ≡ n → setMasks value mask s e a ≡ accepted (paying n (withRest (map (change (masked value mask s e)) (a .rest)) a))
-    unfolding setMasks refuse_when_else_
-    masks-some h k n en = rw (h, ne-eqb mask 0 k, en)
+    unfolding setMasks
+    masks-some h k n en = simp (h, ne-eqb mask 0 k, en, refusing)
 
   masks-done : {b : Buffer} {run other run′ : List ℕ} → WholeInput b run other → (mask ≡ 0 → ⊥) → length run′ ≡ length run → glyphs run′ ≡ edit 0 (b .len .0) (masked value mask s e) (glyphs run)
       → MeetsIn (λ capacity a. setMasks value mask s e a) b run other (reply (withLimitsOf (costs (b .len .0) (b .limits)) b) Done) run′ other
-  unfolding paying
   masks-done {b} {run} {other} {run′} w k lr eg =
       let h : Info → Info = masked value mask s e in
       let n : ℕ = b .len .0 in
       let call : Account ℕ → Account ℕ = λ a. paying n (withRest (map (change h) (a .rest)) a) in
       in-acts {h = call}
       (acts-paid (w .held) call n refl refl lr refl (ap (drop n) eg ∙ edit-drop-behind h 0 n n (glyphs run) zero-le (le-refl n)) refl
-      (limited-of b run′ other (costs n)
-      ∙ ap (limiting (costs n)) (whole-is run′ other w lr refl (map (change h)) (shown-all h (mask-apart value mask s e) n run run′ other eg (b .phase) (w .clean)))) .0)
+      (paying-of b run′ other n
+      ∙ ap (paying n) (whole-is run′ other w lr refl (map (change h)) (shown-all h (mask-apart value mask s e) n run run′ other eg (b .phase) (w .clean)))) .0)
       (masks-some (accountOf b run other) (not-not-whole w) k n (len-of b run other (w .held) (w .clean))) refl
 
 module _ {mask : ℕ} {b : Buffer} {f s : List ℕ} {v : Verdict} where
@@ -194,25 +196,22 @@ module _ (n : ℕ) (run run′ other : List ℕ) (fits : n ≤ length (glyphs ru
   numbered-behind = ap (drop n) e ∙ drop-at (numbered 0 (take n (glyphs run))) (drop n (glyphs run)) n many
 
   shown-numbered : (p : Phase) → spoiledPhase p ≡ false → take n (shown p run′ other) ≡ numbered 0 (take n (shown p run other))
-  unfolding shown
-  shown-numbered Plain k = numbered-first
-  shown-numbered Output k = numbered-first
-  shown-numbered Positions k =
-      let ps : List Position = placements other in
-      paired-take n (glyphs run′) ps
+  shown-numbered p k =
+      let ps : List Position = positionsIn other in
+      on-shown (λ x. take n (x run′ other) ≡ numbered 0 (take n (x run other))) p k numbered-first
+      (paired-take n (glyphs run′) ps
       ∙ (ap (λ (l : List (Glyph ℕ)). paired l (take n ps)) numbered-first
-      ∙ (paired-numbered 0 (take n (glyphs run)) (take n ps) ∙ ap (numbered 0) (sym (paired-take n (glyphs run) ps))))
-  shown-numbered Spoiled k = absurd (false≢true (sym k))
+      ∙ (paired-numbered 0 (take n (glyphs run)) (take n ps) ∙ ap (numbered 0) (sym (paired-take n (glyphs run) ps)))))
 
 -- ---- reset_clusters
 reset-all : (a : Account ℕ) → notWhole a ≡ false → resetClusters a ≡ accepted (withRest (numbered 0 (a .rest)) a)
-unfolding resetClusters refuse_when_else_
-reset-all a h = rw h
+unfolding resetClusters
+reset-all a h = simp (h, refusing)
 
 on-run-reset : (b : Buffer) → OnRun (λ capacity a. resetClusters a) b (RunBecomes (λ l. numbered 0 (take (b .len .0) l) ++ drop (b .len .0) l))
-unfolding resetClusters refuse_when_else_
+unfolding resetClusters
 on-run-reset b = record {
-  whole = record { refuses = λ capacity a h. rw h };
+  whole = record { refuses = λ capacity a h. simp (h, refusing) };
   done = λ run other run′ other′ w lr lo act.
       let fits = whole-room w .fits in
       rw (act .other-is) (in-acts

@@ -4,8 +4,9 @@ use Prim.Native.Nat.{ℕ, zero, suc}
 use lib.{ListN.drop}
 use Rattle.records.specs.{DonePlace, InputPlace, Glyphs.Glyph, Glyphs.Info, Glyphs.rename, Glyphs.change}
 use Rattle.records.proofs.Renaming.{replicate-map, copy-rename}
-use Rattle.lists.specs.{Account.Account, Account.renamed, Results.renamedResult}
+use Rattle.lists.specs.{Account.Account, Account.renamed}
 use Rattle.lists.proofs.Renaming as lists
+use Rattle.lists.proofs.Renaming.{renamedResult}
 use Rattle.edits.specs.Writing.{written, model, writing, copyGlyph, outputGlyph, outputInfo, replaceGlyphs}
 use Rattle.edits.specs.Merging.{outsideInput, merged, merge, mergedOut, mergeOut, mergeInput, mergeDone}
 use Rattle.edits.specs.Deleting.{current, inherited, mergedForward, deleted, deleteGlyph, kept, deletedEach, keptRun, deleteGlyphsInplace}

@@ -5,15 +5,16 @@ use native.Mathlib.Omega.{arith}
 use borrow.Author.Tests.{le-ltb, lt-ltb}
 use lib.{ListN.length}
 use Rattle.records.specs.{Contradiction, WrongPhase, OutOfRange, BadOperand, Done, No, Limits, Counters.capacityOf, Counters.grown, Glyphs.Info, Ranges.copies, View.wordsFrom}
-use Rattle.lists.specs.declared.{Buffer.Buffer, Reply.Reply, Verdict.Verdict, Room.the-variants.Fits}
-use Rattle.lists.specs.{Account.Account, Account.readLevel, Account.outputPhase, Account.outLen, Account.sized, Account.limiting, Account.withLimits, Contract.Meets, Cursor.dropping, State.accountOf, State.goneOf, State.sound, State.Soundness, State.Held, State.roomFor, States.reply, States.withLimitsOf, Verdicts.Leaves, Verdicts.Sized, Verdicts.Sided, Verdicts.wroteBuffer, Verdicts.settled}
+use Rattle.lists.specs.{declared.Buffer.Buffer, declared.Reply.Reply, declared.Verdict.Verdict, declared.Room.the-variants.Fits}
+use Rattle.lists.specs.{Account.Account, Account.readLevel, Account.outputPhase, Account.outLen, Account.sized, Account.limiting, Contract.Meets, Cursor.dropping, Contract.accountOf, Contract.goneOf, Contract.sound, inner.Held.Soundness, inner.Held.Held, inner.Held.roomFor, inner.States.reply, inner.States.withLimitsOf, inner.Verdicts.Leaves, inner.Verdicts.Sized, inner.Verdicts.Sided, inner.Verdicts.wroteBuffer, inner.Verdicts.settled}
 use Rattle.lists.proofs.Sides.{MeetsIn, SyncOutput}
 use Rattle.lists.proofs.{Accounts.output-of, SoundLaws.sound-held, Calls.in-call, SoundLaws.is-sound, Decisions.Lying, Decisions.near-placed, Decisions.decided-unsound, Decisions.decided-refused, Decisions.decided-sized, Decisions.end-acted, Decisions.end-still, Inner.sized-of}
 use Rattle.lists.proofs.SoundLaws.{soundness}
 use Rattle.records.proofs.Tests.{tested}
-use Rattle.edits.specs.{Acts.Acts, Acts.given, Acts.replacing, MergeActs.mergeLimits, Merging.merge, Merging.clustersMerge, Puts.overtakes, Puts.limited, Puts.costing, Puts.Writes, Puts.Replaceable, Puts.Replaces, Puts.OutputDecided, Puts.ReplaceDecided, Replaces.replaced, Writing.written, Writing.model, Writing.writing, Writing.replaceGlyphs}
+use Rattle.lists.proofs.Changed.{other-limits}
+use Rattle.records.proofs.Edited.{length-copies}
+use Rattle.edits.specs.{inner.Acts.Acts, inner.Acts.given, inner.Acts.replacing, inner.MergeActs.mergeLimits, Merging.merge, Merging.clustersMerge, inner.Puts.overtakes, inner.Puts.limited, inner.Puts.costing, inner.Puts.Writes, inner.Puts.Replaceable, inner.Puts.Replaces, inner.Puts.OutputDecided, inner.Puts.ReplaceDecided, inner.Replaces.replaced, Writing.written, Writing.model, Writing.writing, Writing.replaceGlyphs}
 use Rattle.edits.proofs.WriteForms.{putBuffer, writesReplaced}
-use Rattle.edits.proofs.Acting.{length-copies}
 use Rattle.edits.proofs.GivenLaws.{given-none}
 use Rattle.edits.proofs.PutLaws.{stays-behind, wrote-acts}
 use Rattle.edits.proofs.Replacements.{merge-places, inputs-mergeful, merged-roomy, merged-replaced, few, enough, replace-none, replace-outside, replace-short, replace-writes}
@@ -23,7 +24,7 @@ use Rattle.edits.proofs.Writings.{writing-room, writing-done, grown-roo
 -- ---- 0D: one glyph for one merges nothing, and does not overtake the cursor
 module _ {b : Buffer} {run other : List ℕ} (v : Held b run other) (o : outputPhase (b .phase) ≡ true) (k : b .idx .0 < b .len .0) (number : ℕ) where
   one-writes : replaceGlyphs (capacityOf (length run)) 1 1 (number ∷ []) (accountOf b run other) ≡ writing (capacityOf (length run)) 1 (putting 1 1 (copies ((modelOf b run other) .info) (number ∷ [])) (accountOf b run other)) (accountOf b run other)
-  unfolding writesReplaced replaced replacing merge model sized limiting withLimits copies
+  unfolding writesReplaced replaced replacing merge model sized limiting copies
   one-writes =
       let a : Account ℕ = accountOf b run other in
       replace-writes (capacityOf (length run)) 1 1 (number ∷ []) a (output-of b run other ∙ o) (rest-long v o k) refl
@@ -41,14 +42,14 @@ module _ {own x : Bool} {number : ℕ} {b : Buffer} {f s : List ℕ} {v : Verdic
     one-past k q = record { is = decided-refused h (record { law = λ run other l. replace-outside _ 1 1 (number ∷ []) _ (output-of b run other ∙ o) (rest-short (l .held) o k) }) q }
 
 pub one-decided : {number m : ℕ} {b : Buffer} {f s : List ℕ} {v : Verdict} → sound b f s ≡ true → outputPhase (b .phase) ≡ true → b .idx .0 < b .len .0 → m ≡ capacityOf (length f) → Sized m b 1 1 true v → OutputDecided (λ capacity a. replaceGlyphs capacity 1 1 (number ∷ []) a) false number false b f s v
-unfolding wroteBuffer putBuffer withLimitsOf copies
+unfolding wroteBuffer putBuffer copies
 one-decided {number} {m} {b} h o k em q = record {
   is = decided-sized {i = 1} {acts = true} h
       (record { then = _; law = λ run other l. one-writes (l .held) o k number ∙ writing-room (synced o l) 1 (putting 1 1 (copies ((modelOf b run other) .info) (number ∷ []))) })
       (λ fits. record {
         near = near-placed b _ _ _ _;
         none = λ t. absurd (false≢true (sym t));
-        law = λ run other run′ other′ l lr lo act. in-call (one-writes (l .held) o k number) (put-meets 1 1 (copies ((modelOf b run other) .info) (number ∷ [])) (synced o l) (fits .law run other l) (omega arith) (omega arith) lr lo false (one-behind (l .held) o k number) (act .is));
+        law = λ run other run′ other′ l lr lo act. in-call (one-writes (l .held) o k number) (simp other-limits at (put-meets 1 1 (copies ((modelOf b run other) .info) (number ∷ [])) (synced o l) (fits .law run other l) (omega arith) (omega arith) lr lo false (one-behind (l .held) o k number) (act .is)));
       })
       (room-outputable h (omega arith)) em refl q;
 }

@@ -4,13 +4,15 @@ use Prim.Native.Nat.{ℕ, _+_, _-_, _≤_, _<_, max}
 use native.Mathlib.Omega.{arith}
 use borrow.Author.Tests.{le-ltb, lt-ltb}
 use lib.{Dec.ltb, ListN.length, ListN.take, ListN.getD}
-use Rattle.records.specs.{WrongPhase, OutOfRange, BadOperand, Limits, Glyphs.Glyph, Glyphs.Info, Ranges.copies, View.glyphs, View.zeroGlyph}
-use Rattle.lists.specs.declared.{Buffer.Buffer}
-use Rattle.lists.specs.{Account.readLevel, Account.Account, Account.outputPhase, Account.hasOutput, Account.sized, Account.limiting, Account.withLimits, Cursor.dropping, Results.refused, Results.refuse_when_else_, State.accountOf, State.goneOf, State.Held, States.withLimitsOf}
+use Rattle.records.specs.{WrongPhase, OutOfRange, BadOperand, Limits, Glyphs.Glyph, Glyphs.Info, Ranges.copies, View.glyphs, inner.Stores.zeroGlyph}
+use Rattle.lists.proofs.Changed.{limits-limits, other-limits}
+use Rattle.records.proofs.Edited.{take-copies}
+use Rattle.lists.specs.declared.Buffer.{Buffer}
+use Rattle.lists.specs.{Account.readLevel, Account.Account, Account.outputPhase, Account.hasOutput, Account.sized, Account.limiting, Account.withLimits, Cursor.dropping, Account.refused, Contract.accountOf, Contract.goneOf, inner.Held.Held, inner.States.withLimitsOf}
 use Rattle.lists.proofs.{Accounts.output-clean, Accounts.rest-of, SoundLaws.held-lengths, Accounts.level-of, Outputs.gone-output}
-use Rattle.edits.specs.{Acts.Acts, Acts.Mergeful, Acts.replacing, Merging.merge, Merging.clustersMerge, Replaces.replaced, Writing.written, Writing.model, Writing.replaceGlyphs}
+use Rattle.lists.proofs.Refusing.{refusing}
+use Rattle.edits.specs.{inner.Acts.Acts, inner.Acts.Mergeful, inner.Acts.replacing, Merging.merge, Merging.clustersMerge, inner.Replaces.replaced, Writing.written, Writing.model, Writing.replaceGlyphs}
 use Rattle.edits.proofs.WriteForms.{Roomy, writesReplaced}
-use Rattle.edits.proofs.Acting.{take-copies}
 use Rattle.edits.proofs.Chaining.{acts-as, acts-then}
 use Rattle.edits.proofs.Writings.{rest-first, model-rest}
 
@@ -36,20 +38,17 @@ module _ {b : Buffer} {m n : ℕ} {run other : List ℕ} (v : Roomy b m n run ot
 
   -- limits of the same size change nothing here
   same-roomy : (l : Limits) → l .allocated ≡ b .limits .allocated → (run₁ other₁ : List ℕ) → Held (withLimitsOf l b) run₁ other₁ → Roomy (withLimitsOf l b) m n run₁ other₁
-  unfolding withLimitsOf
-  same-roomy l e run₁ other₁ h = record { held = h; output = v .output; in-len = v .in-len; in-size = rw e (v .in-size) }
+  same-roomy l e run₁ other₁ h = record { held = h; output = simp other-limits (v .output); in-len = simp other-limits (v .in-len); in-size = simp (other-limits, e) (v .in-size) }
 
   same-first : (l : Limits) (run₁ other₁ : List ℕ) → Held (withLimitsOf l b) run₁ other₁ → b .idx .0 < b .len .0 → model (accountOf (withLimitsOf l b) run₁ other₁) ≡ (getD (glyphs run₁) (b .idx .0) zeroGlyph) .info
-  unfolding withLimitsOf
-  same-first l run₁ other₁ h k = model-rest _ _ _ (rest-first h (v .output) k)
+  same-first l run₁ other₁ h k = model-rest _ _ _ (simp other-limits at (rest-first h (simp other-limits (v .output)) (simp other-limits k)))
 
   module _ {x : Account ℕ → Account ℕ} (l : Limits) {run₁ other₁ : List ℕ} (u : Acts x b run other (withLimitsOf l b) run₁ other₁) (lr : length run₁ ≡ length run) (lo : length other₁ ≡ length other) where
     merged-held : Held (withLimitsOf l b) run₁ other₁
     merged-held = held-lengths (withLimitsOf l b) run other run₁ other₁ lr lo (u .held)
 
     pub merged-roomy : Roomy (withLimitsOf l b) m n run₁ other₁
-    unfolding withLimitsOf
-    merged-roomy = same-roomy l (u .size) run₁ other₁ merged-held
+    merged-roomy = same-roomy l (simp limits-limits at (u .size)) run₁ other₁ merged-held
 
     module _ (h : b .idx .0 < b .len .0) (ex : x (accountOf b run other) ≡ merge (clustersMerge ((accountOf b run other) .state .level)) 0 m (accountOf b run other)) (gs : List ℕ) {g : Glyph ℕ} (eg : g ≡ getD (glyphs run₁) (b .idx .0) zeroGlyph)
         {f : Buffer} {run′ other′ : List ℕ} (w : Acts (λ a. dropping m (written (take n (copies (g .info) gs)) a)) (withLimitsOf l b) run₁ other₁ f run′ other′) where
@@ -69,21 +68,21 @@ module _ {b : Buffer} {m n : ℕ} {run other : List ℕ} (v : Roomy b m n run ot
 -- ---- replace_glyphs
 module _ (capacity m n : ℕ) (gs : List ℕ) (a : Account ℕ) where
   pub replace-none : hasOutput a ≡ false → replaceGlyphs capacity m n gs a ≡ refused WrongPhase
-  unfolding replaceGlyphs refuse_when_else_
-  replace-none h = rw h
+  unfolding replaceGlyphs
+  replace-none h = simp (h, refusing)
 
   module _ (h : hasOutput a ≡ true) where
     pub replace-outside : ltb (length (a .rest)) (max m 1) ≡ true → replaceGlyphs capacity m n gs a ≡ refused OutOfRange
-    unfolding replaceGlyphs refuse_when_else_
-    replace-outside k = rw (h, k)
+    unfolding replaceGlyphs
+    replace-outside k = simp (h, k, refusing)
 
     pub replace-short : ltb (length (a .rest)) (max m 1) ≡ false → ltb (length gs) n ≡ true → replaceGlyphs capacity m n gs a ≡ refused BadOperand
-    unfolding replaceGlyphs refuse_when_else_
-    replace-short k j = rw (h, k, j)
+    unfolding replaceGlyphs
+    replace-short k j = simp (h, k, j, refusing)
 
     pub replace-writes : ltb (length (a .rest)) (max m 1) ≡ false → ltb (length gs) n ≡ false → replaceGlyphs capacity m n gs a ≡ writesReplaced m n gs capacity a
-    unfolding replaceGlyphs refuse_when_else_ writesReplaced replaced replacing sized limiting withLimits
-    replace-writes k j = rw (h, k, j)
+    unfolding replaceGlyphs writesReplaced replaced replacing sized limiting withLimits
+    replace-writes k j = simp (h, k, j, refusing)
 
 module _ {b : Buffer} {run other : List ℕ} (v : Held b run other) (m : ℕ) (o : outputPhase (b .phase) ≡ true) where
   pub few : b .len .0 - b .idx .0 < max m 1 → ltb (length ((accountOf b run other) .rest)) (max m 1) ≡ true

@@ -1,31 +1,28 @@
 -- `set_length`: zeros behind the run, on the account.
-use mathlib.Core.{Path._≡_, Path.refl, Path.sym, Path.ap, Path._∙_, Bool.Bool, Bool.true, Bool.false, List.List, List._∷_, List._++_, List.append-nil}
-use Prim.Native.Nat.{ℕ, zero, suc, _-_, _≤_, _<_}
+use mathlib.Core.{Path._≡_, Path.refl, Path.sym, Path.ap, Path._∙_, Bool.Bool, Bool.true, Bool.false, List.List, List._++_, List.append-nil}
+use Prim.Native.Nat.{ℕ, _-_, _≤_, _<_}
 use native.Mathlib.Omega.{arith}
 use lib.{ListN.length, ListN.take, ListN.drop, ListN.replicate, Seq.take-all, Seq.take-take, Seq.length-take-le}
-use Rattle.records.specs.{Phase, Position, Contradiction, WrongPhase, Value, No, Glyphs.Glyph, Glyphs.blank, Glyphs.zeroPosition, Counters.capacityOf, Ranges.copies, View.glyphs, View.placements, View.paired}
+use Rattle.records.specs.{Phase, Position, Contradiction, WrongPhase, Value, No, Glyphs.Glyph, Glyphs.blank, Glyphs.zeroPosition, Counters.capacityOf, Ranges.copies, View.glyphs, View.positionsIn, View.paired}
 use Rattle.records.proofs.View.{length-paired}
 use Rattle.records.proofs.Pairs.{paired-take, paired-append}
-use Rattle.lists.specs.declared.{Buffer.Buffer, Verdict.Verdict, Room.the-variants.Fits}
-use Rattle.lists.specs.{Account.Account, Account.positionsPhase, Account.len, Account.sized, Account.failing, Account.withRest, Filled.filled, Results.answered, Results.refuse_when_else_, Results.needing, State.shown, State.accountOf, State.sound, State.roomFor, States.reply, Verdicts.Leaves}
+use Rattle.lists.specs.{declared.Buffer.Buffer, declared.Verdict.Verdict, declared.Room.the-variants.Fits}
+use Rattle.lists.specs.{Account.Account, Account.positionsPhase, Account.len, Account.sized, Account.failing, Account.withRest, inner.Filled.filled, Account.answered, Account.needing, Contract.shown, Contract.accountOf, Contract.sound, inner.Held.roomFor, inner.States.reply, inner.Verdicts.Leaves}
 use Rattle.lists.proofs.Sides.{MeetsIn}
 use Rattle.lists.proofs.{Accounts.len-of, Calls.in-answered, Filling.take-filled, Filling.drop-filled}
 use Rattle.lists.proofs.Decisions.{decided-unsound, decided-refused}
 use Rattle.lists.proofs.SoundLaws.{soundness}
+use Rattle.lists.proofs.Refusing.{refusing}
 use Rattle.records.proofs.Tests.{tested}
-use Rattle.edits.specs.{Fills.longerBuffer, Fills.Lengthens, Fills.Lengthened, Fills.SetsLength, WholeRun.notWhole, WholeRun.setLength, Wholes.WholeInput, Wholes.RunOf}
-use Rattle.edits.proofs.Pairs.{paired-zeros}
-use Rattle.edits.proofs.Placings.{shown-positions}
+use Rattle.lists.proofs.Showing.{shown-glyphs, shown-positions}
+use Rattle.records.proofs.Apart.{paired-zeros}
+use Rattle.records.proofs.Edited.{copies-zeros}
+use Rattle.edits.specs.{inner.Fills.longerBuffer, inner.Fills.Lengthens, inner.Fills.Lengthened, inner.Fills.SetsLength, WholeRun.notWhole, WholeRun.setLength, inner.Wholes.WholeInput, inner.Wholes.RunOf}
 use Rattle.edits.proofs.WholeInputs.{wholeTest, not-not-whole}
 use Rattle.edits.proofs.WholeCalls.{OnWhole, whole-refuses, places-fit}
-use Rattle.edits.proofs.Lengths.{shown-plain, rest-is, room-fits, longer-held, longer-side, longer-is, longer-beyond, other-beyond, Needing, decided-lengthens}
+use Rattle.edits.proofs.Lengths.{rest-is, room-fits, longer-held, longer-side, longer-is, longer-beyond, other-beyond, Needing, decided-lengthens}
 
 -- ---- zeros behind the run
-copies-zeros : (n : ℕ) → copies {G = ℕ} (blank 0) (replicate n 0) ≡ replicate n (record { glyph = 0; info = blank 0 })
-unfolding copies
-copies-zeros zero = refl
-copies-zeros (suc n) = ap {B = List (Glyph ℕ)} (λ r. record { glyph = 0; info = blank 0 } ∷ r) (copies-zeros n)
-
 module _ {phase : Phase} {m n : ℕ} {run other : List ℕ} (w : RunOf phase n run other) where
   pub lengthened-short : n ≤ m → Lengthened phase m n run other run other
   unfolding copies
@@ -38,7 +35,7 @@ module _ {phase : Phase} {m n : ℕ} {run other : List ℕ} (w : RunOf phase n r
     fits : n ≤ length (glyphs run)
     fits = w .room .fits
 
-    other-fits : n ≤ length (placements other)
+    other-fits : n ≤ length (positionsIn other)
     other-fits = places-fit w
 
     -- all of the run is kept
@@ -55,21 +52,21 @@ module _ {phase : Phase} {m n : ℕ} {run other : List ℕ} (w : RunOf phase n r
       pub lengthened-plain : positionsPhase phase ≡ false → Lengthened phase m n run other run′ other
       lengthened-plain p =
           record {
-            is = rw (shown-plain phase run′ other p (w .clean), shown-plain phase run other p (w .clean), kept (glyphs run) fits, copies-zeros (n - m)) zeros-first;
+            is = rw (shown-glyphs phase run′ other p (w .clean), shown-glyphs phase run other p (w .clean), kept (glyphs run) fits, copies-zeros (n - m)) zeros-first;
             behind = zeros-behind;
             other-behind = refl;
           }
 
-      pub lengthened-positions : {other′ : List ℕ} → positionsPhase phase ≡ true → placements other′ ≡ filled zeroPosition m n (placements other) → Lengthened phase m n run other run′ other′
+      pub lengthened-positions : {other′ : List ℕ} → positionsPhase phase ≡ true → positionsIn other′ ≡ filled zeroPosition m n (positionsIn other) → Lengthened phase m n run other run′ other′
       lengthened-positions {other′} p eo =
           let m : ℕ = m in
-          let ps : List Position = placements other in
+          let ps : List Position = positionsIn other in
           let lm : length (take m (glyphs run)) ≡ m = length-take-le m (glyphs run) (omega arith) in
           let lp : length (take m ps) ≡ m = length-take-le m ps (omega (arith, other-fits)) in
-          let zeros : take n (placements other′) ≡ take m ps ++ replicate (n - m) zeroPosition = ap (take n) eo ∙ take-filled zeroPosition m n ps (omega arith) other-fits in
-          let pairs : take n (paired (glyphs run′) (placements other′)) ≡ take m (paired (glyphs run) ps) ++ replicate (n - m) (record { glyph = 0; info = blank 0 }) =
-          paired-take n (glyphs run′) (placements other′)
-          ∙ (ap (λ (l : List (Glyph ℕ)). paired l (take n (placements other′))) zeros-first
+          let zeros : take n (positionsIn other′) ≡ take m ps ++ replicate (n - m) zeroPosition = ap (take n) eo ∙ take-filled zeroPosition m n ps (omega arith) other-fits in
+          let pairs : take n (paired (glyphs run′) (positionsIn other′)) ≡ take m (paired (glyphs run) ps) ++ replicate (n - m) (record { glyph = 0; info = blank 0 }) =
+          paired-take n (glyphs run′) (positionsIn other′)
+          ∙ (ap (λ (l : List (Glyph ℕ)). paired l (take n (positionsIn other′))) zeros-first
           ∙ (ap (paired (take m (glyphs run) ++ replicate (n - m) (record { glyph = 0; info = blank 0 }))) zeros
           ∙ (paired-append (take m (glyphs run)) (replicate (n - m) (record { glyph = 0; info = blank 0 })) (take m ps) (replicate (n - m) zeroPosition) (lm ∙ sym lp)
           ∙ rw (paired-zeros (n - m), paired-take m (glyphs run) ps)))) in
@@ -82,13 +79,13 @@ module _ {phase : Phase} {m n : ℕ} {run other : List ℕ} (w : RunOf phase n r
 -- ---- set_length
 module _ (n : ℕ) where
   on-whole-length : OnWhole (λ capacity a. setLength 0 capacity n a)
-  unfolding setLength refuse_when_else_
-  on-whole-length = record { refuses = λ capacity a h. rw h }
+  unfolding setLength
+  on-whole-length = record { refuses = λ capacity a h. simp (h, refusing) }
 
   length-needs : (capacity : ℕ) (a : Account ℕ) → notWhole a ≡ false → (m : ℕ) → len a ≡ m
       → setLength 0 capacity n a ≡ needing capacity n a (answered 1 (withRest (take n (a .rest) ++ copies (blank 0) (replicate (n - m) 0)) (sized n a))) (answered 0 (failing a))
-  unfolding setLength refuse_when_else_
-  length-needs capacity a h m e = rw (h, e)
+  unfolding setLength
+  length-needs capacity a h m e = simp (h, e, refusing)
 
   module _ {b : Buffer} {run other : List ℕ} (w : WholeInput b run other) where
     length-is : setLength 0 (capacityOf (length run)) n (accountOf b run other)

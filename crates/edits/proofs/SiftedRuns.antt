@@ -4,15 +4,18 @@ use Prim.Native.Nat.{ℕ, suc, _+_, _-_, _≤_, _<_}
 use native.Mathlib.Nat.{sub-zero}
 use native.Mathlib.Omega.{arith}
 use lib.{Dec.ltb, ListN.length, ListN.take, ListN.getD}
-use Rattle.records.specs.{Phase, Plain, Output, Positions, Spoiled, WrongPhase, BadOperand, Done, Limits, Glyphs.key, View.glyphs, View.placements, View.wordsFrom, View.zeroGlyph}
+use Rattle.records.specs.{Phase, Plain, Output, Positions, Spoiled, WrongPhase, BadOperand, Done, Limits, Glyphs.key, View.glyphs, View.positionsIn, View.wordsFrom, inner.Stores.zeroGlyph}
 use Rattle.records.proofs.View.{glyphs-same}
-use Rattle.lists.specs.declared.{Buffer.Buffer, Verdict.Verdict}
-use Rattle.lists.specs.Verdicts.{Sided}
-use Rattle.lists.specs.{Account.readLevel, Account.Account, Account.outputPhase, Account.positionsPhase, Account.spoiledPhase, Account.withGone, Results.refused, Results.accepted, Results.refuse_when_else_, State.shown, State.stateOf, State.accountOf, State.Held, States.reply, States.atPlaces, States.withLimitsOf, Verdicts.leaving, Verdicts.settledBuffer, Verdicts.settled}
+use Rattle.lists.proofs.Showing.{shown-glyphs, shown-positions}
+use Rattle.lists.specs.{declared.Buffer.Buffer, declared.Verdict.Verdict}
+use Rattle.lists.specs.inner.Verdicts.{Sided}
+use Rattle.lists.specs.{Account.readLevel, Account.Account, Account.outputPhase, Account.positionsPhase, Account.spoiledPhase, Account.withGone, Account.refused, Account.accepted, Contract.shown, Contract.stateOf, Contract.accountOf, inner.Held.Held, inner.States.reply, inner.Verdicts.leaving, inner.Verdicts.settled}
 use Rattle.lists.proofs.SoundLaws.{held-lengths}
-use Rattle.edits.specs.declared.{Kept.Kept}
-use Rattle.edits.specs.{Acts.Acts, Charges.DecidedBy, Charges.running, Charges.TakesKeyed, Deleting.deletedEach, Deleting.keptRun, Deleting.deleteGlyphsInplace, MergeActs.mergeLimits, WholeRun.notWhole, Wholes.WholeInput, Wholes.RunRoom}
-use Rattle.edits.specs.Deletes.{DeleteRoom, Deletes, MoveRoom, MovesGlyph, Sifts, keptWith}
+use Rattle.lists.proofs.Refusing.{refusing}
+use Rattle.lists.proofs.Changed.{settled-at, placed-is}
+use Rattle.edits.specs.declared.Kept.{Kept}
+use Rattle.edits.specs.{inner.Acts.Acts, inner.Charges.DecidedBy, inner.Charges.running, inner.Charges.TakesKeyed, Deleting.deletedEach, Deleting.keptRun, Deleting.deleteGlyphsInplace, inner.MergeActs.mergeLimits, WholeRun.notWhole, inner.Wholes.WholeInput, inner.Wholes.RunRoom}
+use Rattle.edits.specs.inner.Deletes.{DeleteRoom, Deletes, MoveRoom, MovesGlyph, Sifts, keptWith}
 use Rattle.edits.proofs.Holding.{same-account}
 use Rattle.edits.proofs.MergeCalls.{in-acts}
 use Rattle.edits.proofs.{Charging.OnKeyed, Charging.running-is, Charging.keyed-decided, WholeCalls.room-lengths}
@@ -117,20 +120,21 @@ phase-known Output o s = absurd (false≢true (sym o))
 phase-known Positions o s = refl
 phase-known Spoiled o s = absurd (false≢true (sym s))
 
-shown-known : (p : Phase) (run other : List ℕ) → outputPhase p ≡ false → spoiledPhase p ≡ false → pairing (positionsPhase p) (glyphs run) (placements other) ≡ shown p run other
-unfolding pairing shown
-shown-known Plain run other o s = refl
-shown-known Output run other o s = absurd (false≢true (sym o))
-shown-known Positions run other o s = refl
-shown-known Spoiled run other o s = absurd (false≢true (sym s))
+shown-known : (p : Phase) (run other : List ℕ) → spoiledPhase p ≡ false → pairing (positionsPhase p) (glyphs run) (positionsIn other) ≡ shown p run other
+unfolding pairing
+shown-known p run other s = by (positionsPhase p) refl
+  where
+    by : (x : Bool) → positionsPhase p ≡ x → pairing x (glyphs run) (positionsIn other) ≡ shown p run other
+    by true h = sym (shown-positions p run other h)
+    by false h = sym (shown-glyphs p run other h s)
 
 module _ {slot mask value level n i o : ℕ} {t : Bool} {l₀ l : Limits} {run₀ other₀ run other : List ℕ} {b : Buffer} (w : WholeInput (running level n l₀ b) run₀ other₀) (et : t ≡ positionsPhase (b .phase))
     (v : Sifting slot mask value t level n l₀ run₀ other₀ l run other i o b) (lr : length run ≡ length run₀) (lo : length other ≡ length other₀) (end : n ≤ i) where
   phase-is : phaseOf t ≡ b .phase
   phase-is = ap phaseOf et ∙ phase-known (b .phase) (w .plain) (w .clean)
 
-  shown-is : (r s : List ℕ) → pairing t (glyphs r) (placements s) ≡ shown (b .phase) r s
-  shown-is r s = ap (λ (x : Bool). pairing x (glyphs r) (placements s)) et ∙ shown-known (b .phase) r s (w .plain) (w .clean)
+  shown-is : (r s : List ℕ) → pairing t (glyphs r) (positionsIn s) ≡ shown (b .phase) r s
+  shown-is r s = ap (λ (x : Bool). pairing x (glyphs r) (positionsIn s)) et ∙ shown-known (b .phase) r s (w .clean)
 
   begun-is : underway t (amid level n b l₀ 0 0) run₀ other₀ ≡ accountOf (running level n l₀ b) run₀ other₀
   unfolding underway stateOf
@@ -183,24 +187,23 @@ sifting-done v end ek = record { acts = λ b w et. rw ek (all-done w et (v .each
 -- ---- the call
 module _ (slot mask value : ℕ) (a : Account ℕ) where
   inplace-not-whole : notWhole a ≡ true → deleteGlyphsInplace slot mask value a ≡ refused WrongPhase
-  unfolding deleteGlyphsInplace refuse_when_else_
-  inplace-not-whole h = rw h
+  unfolding deleteGlyphsInplace
+  inplace-not-whole h = simp (h, refusing)
 
   inplace-slot : notWhole a ≡ false → ltb 1 slot ≡ true → deleteGlyphsInplace slot mask value a ≡ refused BadOperand
-  unfolding deleteGlyphsInplace refuse_when_else_
-  inplace-slot h k = rw (h, k)
+  unfolding deleteGlyphsInplace
+  inplace-slot h k = simp (h, k, refusing)
 
   inplace-accepts : notWhole a ≡ false → ltb 1 slot ≡ false → deleteGlyphsInplace slot mask value a ≡ accepted (keptRun (deletedEach slot mask value (length (a .rest)) a))
-  unfolding deleteGlyphsInplace refuse_when_else_
-  inplace-accepts h k = rw (h, k)
+  unfolding deleteGlyphsInplace
+  inplace-accepts h k = simp (h, k, refusing)
 
 -- the state that it leaves
 abbrev left : Kept → Buffer → Buffer
 left k x = record { idx = x .idx; len = record { 0 = k .len }; «out_len» = x .«out_len»; limits = k .limits; wants = x .wants; phase = x .phase; swapped = x .swapped; «have_separate_output» = x .«have_separate_output»; level = x .level }
 
 settles-kept : (b : Buffer) (k : Kept) → settled b (keptWith k (leaving b true Done)) ≡ reply (left k b) Done
-unfolding settled settledBuffer withLimitsOf atPlaces
-settles-kept b k = refl
+settles-kept b k = settled-at b (keptWith k (leaving b true Done)) ∙ ap (λ (x : Buffer). reply x Done) (placed-is (k .limits) b (b .idx .0) (k .len) (b .«out_len» .0))
 
 module _ {slot : ℕ} (mask value : ℕ) {b : Buffer} where
   module _ {t : Bool} (et : t ≡ positionsPhase (b .phase)) where

@@ -4,14 +4,15 @@ use Prim.Native.Nat.{ℕ, suc, _+_, _-_, _≤_, _<_}
 use native.Mathlib.Omega.{arith}
 use borrow.Author.Tests.{eq-eqb, ne-eqb}
 use lib.{ListN.length, ListN.take, ListN.drop, ListN.getD, ListN.set, Seq.slice, Seq.slice-cons, Seq.set-getD, Seq.drop-drop}
-use Rattle.records.specs.{Phase, Plain, Output, Positions, Position, Limits, Glyphs.Glyph, Glyphs.blank, Glyphs.key, Glyphs.zeroPosition, Ranges.infos, Ranges.is, View.glyphs, View.placements, View.zeroGlyph, View.wordsFrom}
-use Rattle.records.proofs.View.{glyphs-same, placements-glyphs, whole-same, beyond-glyphs, beyond-placements}
+use Rattle.records.specs.{Phase, Plain, Output, Positions, Position, Limits, Glyphs.Glyph, Glyphs.blank, Glyphs.key, Glyphs.zeroPosition, Ranges.infos, Ranges.is, View.glyphs, View.positionsIn, inner.Stores.zeroGlyph, View.wordsFrom}
+use Rattle.records.proofs.View.{glyphs-same, positions-glyphs, whole-same, beyond-glyphs, beyond-positions}
 use Rattle.records.proofs.Pairs.{key-alone}
-use Rattle.lists.specs.declared.{Buffer.Buffer}
-use Rattle.lists.specs.{Account.readLevel, Account.Account, Account.inPhase, Account.withGone, Copied.copied, State.Held, States.atPlaces, States.withLimitsOf}
+use Rattle.lists.specs.declared.Buffer.{Buffer}
+use Rattle.lists.specs.{Account.readLevel, Account.Account, Account.inPhase, Account.withGone, inner.Copied.copied, inner.Held.Held}
 use Rattle.lists.proofs.{Copying.copied-none, Copying.copied-more, Copying.take-copied, Copying.drop-copied, Copying.take-range, Copying.range-same}
 use Rattle.lists.proofs.Outputs.{output, output-account}
-use Rattle.edits.specs.{Acts.Acts, Deletes.Deletes, Deletes.MoveRoom, Deletes.MovesGlyph, Deleting.current, Deleting.deleted, Deleting.kept, MergeActs.mergeLimits, Wholes.RunRoom}
+use Rattle.lists.proofs.Changed.{placed-is}
+use Rattle.edits.specs.{inner.Acts.Acts, inner.Deletes.Deletes, inner.Deletes.MoveRoom, inner.Deletes.MovesGlyph, Deleting.current, Deleting.deleted, Deleting.kept, inner.MergeActs.mergeLimits, inner.Wholes.RunRoom}
 use Rattle.edits.proofs.Holding.{same-account}
 use Rattle.edits.proofs.Pairings.{pairing, pairing-take, pairing-slice, pairing-first, pairing-set, length-pairing, beside, deleted-beside}
 
@@ -42,17 +43,17 @@ phaseOf t = cond t Positions Plain
 -- the account of the call: its phase is that of the run, and the glyphs deleted are gone
 unfoldable pub underway : Bool → Buffer → (run other : List ℕ) → Account ℕ
 underway positions b run other = record {
-  done = take (b .«out_len» .0) (pairing positions (glyphs run) (placements other));
+  done = take (b .«out_len» .0) (pairing positions (glyphs run) (positionsIn other));
   passed = [];
-  rest = slice (b .idx .0) (b .len .0) (pairing positions (glyphs run) (placements other));
+  rest = slice (b .idx .0) (b .len .0) (pairing positions (glyphs run) (positionsIn other));
   state = record { phase = phaseOf positions; gone = b .idx .0 - b .«out_len» .0; limits = b .limits; level = readLevel (b .level); wants = b .wants };
 }
 
 underway-beside : (t : Bool) (b : Buffer) (run other : List ℕ)
-    → underway t b run other ≡ beside t (phaseOf t) (b .idx .0 - b .«out_len» .0) (take (b .«out_len» .0) (placements other)) (slice (b .idx .0) (b .len .0) (placements other)) (output b (b .idx .0) (take (b .«out_len» .0) (glyphs run)) (slice (b .idx .0) (b .len .0) (glyphs run)))
+    → underway t b run other ≡ beside t (phaseOf t) (b .idx .0 - b .«out_len» .0) (take (b .«out_len» .0) (positionsIn other)) (slice (b .idx .0) (b .len .0) (positionsIn other)) (output b (b .idx .0) (take (b .«out_len» .0) (glyphs run)) (slice (b .idx .0) (b .len .0) (glyphs run)))
 unfolding underway beside inPhase withGone
 underway-beside t b run other =
-    same-account (pairing-take t (glyphs run) (placements other) (b .«out_len» .0)) refl (pairing-slice t (glyphs run) (placements other) (b .idx .0) (b .len .0)) refl
+    same-account (pairing-take t (glyphs run) (positionsIn other) (b .«out_len» .0)) refl (pairing-slice t (glyphs run) (positionsIn other) (b .idx .0) (b .len .0)) refl
 
 -- what becomes of the glyph at the cursor
 unfoldable pub sifted : ℕ → ℕ → ℕ → Account ℕ → Account ℕ
@@ -76,10 +77,10 @@ module _ (t : Bool) {level n i o : ℕ} {l l′ : Limits} (b : Buffer) {run othe
   delete-is =
       let x : Buffer = amid level n b l i o in
       let r : Buffer = amid level n b l′ (i + 1) o in
-      let ps : List Position = placements other in
+      let ps : List Position = positionsIn other in
       let gone : i + 1 - o ≡ i - o + 1 = omega (arith, low) in
-      let done : take o (placements other′) ≡ take o ps = ap (λ (q : List ℕ). take o (placements q)) k in
-      let rest : slice (i + 1) n (placements other′) ≡ drop 1 (slice i n ps) = ap (λ (q : List ℕ). slice (i + 1) n (placements q)) k ∙ sym (drop-drop 1 i (take n ps)) in
+      let done : take o (positionsIn other′) ≡ take o ps = ap (λ (q : List ℕ). take o (positionsIn q)) k in
+      let rest : slice (i + 1) n (positionsIn other′) ≡ drop 1 (slice i n ps) = ap (λ (q : List ℕ). slice (i + 1) n (positionsIn q)) k ∙ sym (drop-drop 1 i (take n ps)) in
       let here : output r (i + 1) (take o (glyphs run′)) (slice (i + 1) n (glyphs run′)) ≡ deleted (output x i (take o (glyphs run)) (slice i n (glyphs run))) =
       sym (output-account r run′ other′ refl) ∙ (u .is ∙ ap (λ (a : Account ℕ). deleted a) (output-account x run other refl)) in
       underway-beside t r run′ other′
@@ -107,9 +108,9 @@ module _ (t : Bool) (ps : List Position) (i k : ℕ) where
 
 module _ {t : Bool} {i k : ℕ} {run other : List ℕ} where
   pub glyph-same : i ≡ k → MovesGlyph t i k run other run other
-  glyph-same e = record { run-is = rw e (sym (set-getD (glyphs run) k zeroGlyph)); other-is = position-same t (placements other) i k e }
+  glyph-same e = record { run-is = rw e (sym (set-getD (glyphs run) k zeroGlyph)); other-is = position-same t (positionsIn other) i k e }
 
-  pub glyph-moved : {run′ other′ : List ℕ} (g : Glyph ℕ) → g ≡ getD (glyphs run) i zeroGlyph → glyphs run′ ≡ set (glyphs run) k g → placements other′ ≡ cond t (set (placements other) k (getD (placements other) i zeroPosition)) (placements other) → MovesGlyph t i k run other run′ other′
+  pub glyph-moved : {run′ other′ : List ℕ} (g : Glyph ℕ) → g ≡ getD (glyphs run) i zeroGlyph → glyphs run′ ≡ set (glyphs run) k g → positionsIn other′ ≡ cond t (set (positionsIn other) k (getD (positionsIn other) i zeroPosition)) (positionsIn other) → MovesGlyph t i k run other run′ other′
   glyph-moved g eg e eo = record { run-is = e ∙ ap (set (glyphs run) k) eg; other-is = eo }
 
 -- room for it
@@ -117,7 +118,7 @@ module _ {n i o : ℕ} {run other : List ℕ} (w : RunRoom n run other) (low : o
   pub keep-room : MoveRoom i o run other
   keep-room =
       let same : length (glyphs run) ≡ length (glyphs other) = glyphs-same run other (w .same) in
-      let many : length (placements other) ≡ length (glyphs other) = placements-glyphs other in
+      let many : length (positionsIn other) ≡ length (glyphs other) = positions-glyphs other in
       record { from = omega (arith, w .fits); to = omega (arith, w .fits); from-place = omega (arith, w .fits); to-place = omega (arith, w .fits) }
 
 -- a glyph at the cursor
@@ -134,23 +135,23 @@ module _ (t : Bool) {level n i o : ℕ} {l : Limits} {b : Buffer} {run other run
   keep-is : underway t (amid level n b l (i + 1) (o + 1)) run′ other′ ≡ kept (underway t (amid level n b l i o) run other)
   unfolding underway kept
   keep-is =
-      let m : List (Glyph ℕ) = pairing t (glyphs run) (placements other) in
-      let here : pairing t (glyphs run′) (placements other′) ≡ set m o (getD m i zeroGlyph) =
-      (λ x. pairing t (u .run-is x) (u .other-is x)) ∙ pairing-set t (glyphs run) (placements other) i o (inside .from) (inside .from-place) (inside .to) (inside .to-place) in
-      let within : i < length m = rw (length-pairing t (glyphs run) (placements other)) (inside .from) in
+      let m : List (Glyph ℕ) = pairing t (glyphs run) (positionsIn other) in
+      let here : pairing t (glyphs run′) (positionsIn other′) ≡ set m o (getD m i zeroGlyph) =
+      (λ x. pairing t (u .run-is x) (u .other-is x)) ∙ pairing-set t (glyphs run) (positionsIn other) i o (inside .from) (inside .from-place) (inside .to) (inside .to-place) in
+      let within : i < length m = rw (length-pairing t (glyphs run) (positionsIn other)) (inside .from) in
       let gone : i + 1 - (o + 1) ≡ i - o = omega arith in
-      let done : take (o + 1) (pairing t (glyphs run′) (placements other′)) ≡ take o m ++ take 1 (slice i n m) = ap (take (o + 1)) here ∙ set-done zeroGlyph m i o within (v .low) n (v .some) in
-      let rest : slice (i + 1) n (pairing t (glyphs run′) (placements other′)) ≡ drop 1 (slice i n m) = ap (slice (i + 1) n) here ∙ set-rest zeroGlyph m i o within (v .low) n in
+      let done : take (o + 1) (pairing t (glyphs run′) (positionsIn other′)) ≡ take o m ++ take 1 (slice i n m) = ap (take (o + 1)) here ∙ set-done zeroGlyph m i o within (v .low) n (v .some) in
+      let rest : slice (i + 1) n (pairing t (glyphs run′) (positionsIn other′)) ≡ drop 1 (slice i n m) = ap (slice (i + 1) n) here ∙ set-rest zeroGlyph m i o within (v .low) n in
       same-account done refl rest (λ x. record { phase = phaseOf t; gone = gone x; limits = l; level = readLevel level; wants = b .wants })
 
   kept-run : drop (l .allocated) (glyphs run′) ≡ drop (l .allocated) (glyphs run)
   kept-run = ap (drop (l .allocated)) (u .run-is) ∙ set-beyond zeroGlyph (glyphs run) i o (inside .from) (v .low) (l .allocated) (omega (arith, v .low, v .some, v .held .len-in))
 
-  kept-other : drop (l .allocated) (placements other′) ≡ drop (l .allocated) (placements other)
+  kept-other : drop (l .allocated) (positionsIn other′) ≡ drop (l .allocated) (positionsIn other)
   kept-other = ap (drop (l .allocated)) (u .other-is) ∙ pick t
     where
-      pick : (x : Bool) → drop (l .allocated) (cond x (set (placements other) o (getD (placements other) i zeroPosition)) (placements other)) ≡ drop (l .allocated) (placements other)
-      pick true = set-beyond zeroPosition (placements other) i o (inside .from-place) (v .low) (l .allocated) (omega (arith, v .low, v .some, v .held .len-in))
+      pick : (x : Bool) → drop (l .allocated) (cond x (set (positionsIn other) o (getD (positionsIn other) i zeroPosition)) (positionsIn other)) ≡ drop (l .allocated) (positionsIn other)
+      pick true = set-beyond zeroPosition (positionsIn other) i o (inside .from-place) (v .low) (l .allocated) (omega (arith, v .low, v .some, v .held .len-in))
       pick false = refl
 
   keep-held : Held (amid level n b l (i + 1) (o + 1)) run other
@@ -171,7 +172,7 @@ module _ (t : Bool) {level n i o : ℕ} {l : Limits} {b : Buffer} {run other run
     is = keep-is;
     size = refl;
     run-beyond = sym (beyond-glyphs (l .allocated) run run′ (v .held .whole) (sym lr) (sym kept-run));
-    other-beyond = sym (beyond-placements (l .allocated) other other′ (whole-same run other (v .held .same) (v .held .whole)) (sym lo) (sym kept-other));
+    other-beyond = sym (beyond-positions (l .allocated) other other′ (whole-same run other (v .held .same) (v .held .whole)) (sym lo) (sym kept-other));
     held = keep-held;
   }
 
@@ -182,15 +183,15 @@ module _ (t : Bool) (slot mask value : ℕ) {level n i o : ℕ} {l : Limits} {b 
   key-here =
       let m : List (Glyph ℕ) = glyphs run in
       let one : slice i n m ≡ getD m i zeroGlyph ∷ slice (suc i) n m = slice-cons i n m zeroGlyph (v .some) (omega (arith, v .some, v .room .fits)) in
-      ap (λ (x : List (Glyph ℕ)). key slot mask (getD (infos x) 0 (blank 0))) (pairing-slice t m (placements other) i n)
-      ∙ (pairing-first t (slice i n m) (slice i n (placements other)) (key slot mask) (key-alone slot mask)
+      ap (λ (x : List (Glyph ℕ)). key slot mask (getD (infos x) 0 (blank 0))) (pairing-slice t m (positionsIn other) i n)
+      ∙ (pairing-first t (slice i n m) (slice i n (positionsIn other)) (key slot mask) (key-alone slot mask)
       ∙ ap (λ (x : List (Glyph ℕ)). key slot mask (getD (infos x) 0 (blank 0))) one)
 
   module _ {k : ℕ} (ek : k ≡ key slot mask (getD (glyphs run) i zeroGlyph .info)) where
     pub one-deleted : {merged : Bool} {run′ other′ : List ℕ} → k ≡ value → Deletes false level i n o merged run other run′ other′ → Onward (sifted slot mask value) t (amid level n b l i o) run other (amid level n b (mergeLimits merged 2 l) (i + 1) o) run′ other′
-    unfolding sifted atPlaces withLimitsOf
-    one-deleted h d =
-        onward-as (delete-onward t b (v .low) (d .acts (amid level n b l i o) (record { held = v .held; output = refl; some = v .some })) (d .own refl))
+    unfolding sifted
+    one-deleted {merged} h d =
+        onward-as (delete-onward t b (v .low) (rw (placed-is (mergeLimits merged 2 l) (amid level n b l i o) (i + 1) n o) at (d .acts (amid level n b l i o) (record { held = v .held; output = refl; some = v .some }))) (d .own refl))
         (rw (eq-eqb (key slot mask (current (underway t (amid level n b l i o) run other))) value (key-here ∙ (sym ek ∙ h))))
 
     pub one-kept : {run′ other′ : List ℕ} → (k ≡ value → ⊥) → MovesGlyph t i o run other run′ other′ → length run′ ≡ length run → length other′ ≡ length other → Onward (sifted slot mask value) t (amid level n b l i o) run other (amid level n b l (i + 1) (o + 1)) run′ other′

@@ -3,14 +3,14 @@ use mathlib.Core.{Path._≡_, Path.refl, Path.sym, Path.ap, Path._∙_, Bool.Boo
 use Prim.Native.Nat.{ℕ, _≤_, _<_}
 use native.Mathlib.Omega.{arith}
 use lib.ListN.{length}
-use Rattle.records.specs.{Phase, Contradiction, WrongPhase, Done, No, Glyphs.Glyph, View.glyphs, View.placements}
-use Rattle.records.proofs.View.{glyphs-same, placements-glyphs}
-use Rattle.lists.specs.declared.{Buffer.Buffer, Reply.Reply, Verdict.Verdict}
-use Rattle.lists.specs.{Account.Account, Contract.Meets, Results.Result, Results.refused, State.sound, States.reply, Verdicts.leaving, Verdicts.Leaves, Verdicts.settled, Verdicts.Decided}
+use Rattle.records.specs.{Phase, Contradiction, WrongPhase, Done, No, Glyphs.Glyph, View.glyphs, View.positionsIn}
+use Rattle.records.proofs.View.{glyphs-same, positions-glyphs}
+use Rattle.lists.specs.{declared.Buffer.Buffer, declared.Reply.Reply, declared.Verdict.Verdict}
+use Rattle.lists.specs.{Account.Account, Contract.Meets, Account.Result, Account.refused, Contract.sound, inner.States.reply, inner.Verdicts.leaving, inner.Verdicts.Leaves, inner.Verdicts.settled, inner.Verdicts.Decided}
 use Rattle.lists.proofs.Sides.{MeetsIn}
 use Rattle.lists.proofs.SoundLaws.{sound-held, soundness}
 use Rattle.lists.proofs.Decisions.{Lying, Refuses, leaves-is, near-same, decided-unsound, decided-refused, decided-does}
-use Rattle.edits.specs.{WholeRun.notWhole, Wholes.WholeInput, Wholes.RunRoom, Wholes.RunOf, Wholes.wholeVerdict, Wholes.TakesWhole, Wholes.RunBecomes}
+use Rattle.edits.specs.{WholeRun.notWhole, inner.Wholes.WholeInput, inner.Wholes.RunRoom, inner.Wholes.RunOf, inner.Wholes.wholeVerdict, inner.Wholes.TakesWhole, inner.Wholes.RunBecomes}
 use Rattle.edits.proofs.WholeInputs.{wholeTest, whole-test, whole-input}
 
 -- ---- a call that is refused unless *rest* is the run
@@ -54,8 +54,8 @@ module _ {phase : Phase} {n : ℕ} {run other : List ℕ} (w : RunOf phase n run
   pub run-shorter : {m : ℕ} → m ≤ n → RunOf phase m run other
   run-shorter h = record { clean = w .clean; room = room-shorter (w .room) h }
 
-  pub places-fit : n ≤ length (placements other)
-  places-fit = omega (arith, run-second, placements-glyphs other)
+  pub places-fit : n ≤ length (positionsIn other)
+  places-fit = omega (arith, run-second, positions-glyphs other)
 
 pub run-lengths : {phase : Phase} {n : ℕ} {run other run′ other′ : List ℕ} → RunOf phase n run other → length run′ ≡ length run → length other′ ≡ length other → RunOf phase n run′ other′
 run-lengths w lr lo = record { clean = w .clean; room = room-lengths (w .room) lr lo }

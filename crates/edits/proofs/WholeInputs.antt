@@ -4,13 +4,14 @@ use Prim.Native.Nat.{ℕ, _≤_}
 use native.Mathlib.Omega.{arith}
 use borrow.Author.Tests.{ltb-false}
 use lib.{Dec.ltb, ListN.length, ListN.take, ListN.drop}
-use Rattle.records.specs.{Glyphs.Glyph, View.glyphs, View.placements}
-use Rattle.records.proofs.View.{beyond-glyphs, beyond-placements, whole-same}
-use Rattle.lists.specs.declared.{Buffer.Buffer}
-use Rattle.lists.specs.{Account.outputPhase, Account.spoiledPhase, Account.idx, Account.withRest, State.shown, State.goneOf, State.stateOf, State.accountOf, State.Held}
+use Rattle.records.specs.{Glyphs.Glyph, View.glyphs, View.positionsIn}
+use Rattle.records.proofs.View.{beyond-glyphs, beyond-positions, whole-same}
+use Rattle.lists.specs.declared.Buffer.{Buffer}
+use Rattle.lists.specs.{Account.outputPhase, Account.spoiledPhase, Account.idx, Account.withRest, Contract.shown, Contract.goneOf, Contract.stateOf, Contract.accountOf, inner.Held.Held}
 use Rattle.lists.proofs.{Outputs.gone-without, Accounts.output-of, Accounts.spoiled-of, Accounts.idx-of, Accounts.rest-of, SoundLaws.held-lengths}
 use Rattle.records.proofs.Tests.{tested}
-use Rattle.edits.specs.{Acts.Acts, WholeRun.notWhole, Wholes.WholeInput}
+use Rattle.lists.proofs.Showing.{account-is}
+use Rattle.edits.specs.{inner.Acts.Acts, WholeRun.notWhole, inner.Wholes.WholeInput}
 use Rattle.edits.proofs.Holding.{behind-further}
 use Rattle.edits.proofs.MergeCalls.{neither-left, neither-right}
 
@@ -56,8 +57,7 @@ module _ {b : Buffer} {run other : List ℕ} (w : WholeInput b run other) where
   whole-rest = omega (arith, rest-of b run other (w .held) (w .clean), w .start)
 
   pub account-whole : accountOf b run other ≡ record { done = []; passed = []; rest = take (b .len .0) (shown (b .phase) run other); state = stateOf b }
-  unfolding accountOf goneOf shown stateOf
-  account-whole = rw (w .held .none (w .plain), whole-gone, w .start)
+  account-whole = rw (account-is b run other, whole-gone, w .held .none (w .plain), w .start)
 
 -- lengths are all that it goes by
 pub whole-lengths : {b : Buffer} {run other run′ other′ : List ℕ} → length run′ ≡ length run → length other′ ≡ length other → WholeInput b run other → WholeInput b run′ other′
@@ -71,7 +71,7 @@ unfolding withRest
 whole-is {b} {run} {other} run′ other′ w lr lo h e = account-whole (whole-lengths lr lo w) ∙ rw (account-whole w, e)
 
 module _ {b : Buffer} {run other run′ other′ : List ℕ} (w : WholeInput b run other) (lr : length run′ ≡ length run) (lo : length other′ ≡ length other) where
-  module _ (dr : drop (b .len .0) (glyphs run′) ≡ drop (b .len .0) (glyphs run)) (dp : drop (b .len .0) (placements other′) ≡ drop (b .len .0) (placements other)) where
+  module _ (dr : drop (b .len .0) (glyphs run′) ≡ drop (b .len .0) (glyphs run)) (dp : drop (b .len .0) (positionsIn other′) ≡ drop (b .len .0) (positionsIn other)) where
     pub whole-acts : (h : List (Glyph ℕ) → List (Glyph ℕ)) → take (b .len .0) (shown (b .phase) run′ other′) ≡ h (take (b .len .0) (shown (b .phase) run other)) → Acts (λ a. withRest (h (a .rest)) a) b run other b run′ other′
     whole-acts h e =
         let n : ℕ = b .limits .allocated in
@@ -80,7 +80,7 @@ module _ {b : Buffer} {run other run′ other′ : List ℕ} (w : WholeInput b r
           size = refl;
           side = refl;
           run-beyond = sym (beyond-glyphs n run run′ (w .held .whole) (sym lr) (sym (behind-further (b .len .0) n (glyphs run) (glyphs run′) (w .held .len-in) dr)));
-          other-beyond = sym (beyond-placements n other other′ (whole-same run other (w .held .same) (w .held .whole)) (sym lo) (sym (behind-further (b .len .0) n (placements other) (placements other′) (w .held .len-in) dp)));
+          other-beyond = sym (beyond-positions n other other′ (whole-same run other (w .held .same) (w .held .whole)) (sym lo) (sym (behind-further (b .len .0) n (positionsIn other) (positionsIn other′) (w .held .len-in) dp)));
           held = w .held;
         }
 

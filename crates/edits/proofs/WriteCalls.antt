@@ -4,16 +4,18 @@ use Prim.Native.Nat.{ℕ, _+_, _-_, _≤_, _<_, _^_}
 use native.Mathlib.Omega.{arith}
 use borrow.Author.Tests.{ltb-true, ltb-false}
 use lib.{Dec.ltb, ListN.length, ListN.take, ListN.getD}
-use Rattle.records.specs.{Contradiction, WrongPhase, OutOfRange, OverCapacity, Done, No, Limits, Counters.capacityOf, Counters.failed, Counters.grown, Glyphs.Glyph, Glyphs.Info, Ranges.copies, View.glyphs, View.seen, View.zeroGlyph, View.wordsFrom}
-use Rattle.records.specs.declared.{Glyph.Glyph as Words}
+use Rattle.records.specs.{Contradiction, WrongPhase, OutOfRange, OverCapacity, Done, No, Limits, Counters.capacityOf, Counters.grown, Glyphs.Glyph, Glyphs.Info, Ranges.copies, View.glyphs, View.seen, inner.Stores.zeroGlyph, View.wordsFrom}
+use Rattle.records.specs.declared.GlyphInfo.{GlyphInfo}
 use Rattle.records.proofs.View.{length-glyphs, glyphs-same}
-use Rattle.lists.specs.declared.{Buffer.Buffer, Verdict.Verdict, Room.Room, Room.the-variants.Fits, Room.the-variants.GivesUp, Room.the-variants.Over}
-use Rattle.lists.specs.{Account.Account, Account.outputPhase, Account.outLen, Account.sized, Cursor.dropping, Results.Result, State.accountOf, State.sound, State.Soundness, State.Held, State.roomFor, States.reply, States.withLimitsOf, States.atPlaces, States.apartBuffer, Verdicts.Leaves, Verdicts.Sized, Verdicts.bySize, Verdicts.wroteBuffer, Verdicts.failedBuffer, Verdicts.settledBuffer, Verdicts.settled, Verdicts.Decided}
+use Rattle.lists.specs.{declared.Buffer.Buffer, declared.Verdict.Verdict, declared.Room.Room, declared.Room.the-variants.Fits, declared.Room.the-variants.GivesUp, declared.Room.the-variants.Over}
+use Rattle.lists.specs.{Account.Account, Account.outputPhase, Account.outLen, Account.sized, Cursor.dropping, Account.Result, Contract.accountOf, Contract.sound, inner.Held.Soundness, inner.Held.Held, inner.Held.roomFor, inner.States.reply, inner.States.withLimitsOf, inner.Verdicts.leaving, inner.Verdicts.Leaves, inner.Verdicts.Sized, inner.Verdicts.bySize, inner.Verdicts.wroteBuffer, inner.Verdicts.failedBuffer, inner.Verdicts.settled, inner.Verdicts.Decided}
 use Rattle.lists.proofs.Sides.{MeetsIn, SyncOutput}
-use Rattle.lists.proofs.{SoundLaws.sound-held, SizeLaws.fits-within, Accounts.output-of, Calls.in-call, SoundLaws.is-sound, Decisions.Lying, Decisions.Needs, Decisions.Rooms, Decisions.room-of, Decisions.meets-sided, Decisions.decided-unsound, Decisions.decided-refused, Decisions.decided-accepted, Decisions.near-limits, Decisions.decided-sized, Decisions.leaves-is, Inner.sized-of}
+use Rattle.lists.proofs.{SoundLaws.sound-held, SizeLaws.fits-within, Accounts.output-of, Calls.in-call, SoundLaws.is-sound, Decisions.Lying, Decisions.Needs, Decisions.Rooms, Decisions.room-of, Decisions.meets-sided, Decisions.decided-unsound, Decisions.decided-refused, Decisions.decided-accepted, Decisions.near-limits, Decisions.decided-sized, Decisions.leaves-is, Inner.limits-side, Inner.sized-of}
 use Rattle.lists.proofs.SoundLaws.{soundness}
 use Rattle.records.proofs.Tests.{tested}
-use Rattle.edits.specs.{Acts.Acts, Puts.overtakes, Puts.lying, Puts.moving, Puts.limited, Puts.costing, Puts.sizeAlone, Puts.Writes, Puts.Puttable, Puts.Wrote, Puts.modelAt, Puts.Outputable, Puts.Outputs, Puts.OutputDecided, Puts.InfoDecided, Writing.written, Writing.model, Writing.writing, Writing.copyGlyph, Writing.outputGlyph}
+use Rattle.records.proofs.Edited.{copies-one}
+use Rattle.lists.proofs.Changed.{other-limits, changed, settled-at}
+use Rattle.edits.specs.{inner.Acts.Acts, inner.Puts.overtakes, inner.Puts.lying, inner.Puts.moving, inner.Puts.limited, inner.Puts.costing, inner.Puts.sizeAlone, inner.Puts.Writes, inner.Puts.Puttable, inner.Puts.Wrote, inner.Puts.modelAt, inner.Puts.Outputable, inner.Puts.Outputs, inner.Puts.OutputDecided, inner.Puts.InfoDecided, Writing.written, Writing.model, Writing.writing, Writing.copyGlyph, Writing.outputGlyph}
 use Rattle.edits.proofs.WriteForms.{writesOne, putBuffer}
 use Rattle.edits.proofs.PutLaws.{stays-behind, wrote-acts, model-first, model-last}
 use Rattle.edits.proofs.Writings.{writing-room, writing-done, size-done, grown-roomy, out-size, dropping-none, rest-first, rest-none, rest-short, rest-long, done-last, all-some, all-none, model-rest, model-done, copy-none, copy-outside, copy-writes, glyph-none, glyph-writes, glyph-sizes, info-none, info-writes}
@@ -68,13 +70,12 @@ putting m n new a = dropping m (written (take n new) (sized (outLen a + n) a))
 module _ {b : Buffer} {run other run′ other′ : List ℕ} (m n : ℕ) (new : List (Glyph ℕ)) (v : SyncOutput b run other) (fit : roomFor (capacityOf (length run)) (b .«out_len» .0 + n) (b .limits) ≡ Fits) (in-len : b .idx .0 + m ≤ b .len .0) (many : n ≤ length new) (lr : length run′ ≡ length run) (lo : length other′ ≡ length other) where
   pub put-meets : (x : Bool) → (b .«have_separate_output» ≡ false → x ≡ false → b .«out_len» .0 + n ≤ b .idx .0 + m) → Wrote (b .«have_separate_output») x (b .«out_len» .0) new n run other run′ other′
       → MeetsIn (λ capacity a. writing capacity n (putting m n new a) a) b run other (reply (putBuffer x m n (grownBuffer n b)) Done) run′ other′
-  unfolding withLimitsOf
   put-meets x q w =
-      let u : Acts (λ a. dropping m (written (take n new) a)) (grownBuffer n b) run other (putBuffer x m n (grownBuffer n b)) run′ other′ = wrote-acts (grown-roomy v m n fit in-len) x q many w lr lo in
+      let u : Acts (λ a. dropping m (written (take n new) a)) (grownBuffer n b) run other (putBuffer x m n (grownBuffer n b)) run′ other′ = wrote-acts (grown-roomy v m n fit in-len) x (simp other-limits q) many (simp other-limits w) lr lo in
       let f : Buffer = putBuffer x m n (grownBuffer n b) in
       let e : accountOf f run′ other′ ≡ putting m n new (accountOf b run other) =
       u .is ∙ ap (λ (a : Account ℕ). dropping m (written (take n new) a)) (sized-of b run other (b .«out_len» .0 + n) ∙ sym (out-size v (accountOf b run other) refl n)) in
-      writing-done v n (putting m n new) fit (u .side) (subst (λ (k : ℕ). wordsFrom k run′ ≡ wordsFrom k run) (sym (u .size)) (u .run-beyond)) (subst (λ (k : ℕ). wordsFrom k other′ ≡ wordsFrom k other) (sym (u .size)) (u .other-beyond)) (u .held) e refl
+      writing-done v n (putting m n new) fit (u .side ∙ limits-side _ b) (subst (λ (k : ℕ). wordsFrom k run′ ≡ wordsFrom k run) (sym (u .size)) (u .run-beyond)) (subst (λ (k : ℕ). wordsFrom k other′ ≡ wordsFrom k other) (sym (u .size)) (u .other-beyond)) (u .held) e refl
 
 -- ---- the size is there, gives up or is over
 pub record Puts (call : ℕ → Account ℕ → Result ℕ) (b : Buffer) (f : List ℕ) (i o : ℕ) (paid : Limits → Limits) (Act : (run other run′ other′ : List ℕ) → Type 0) : Type 0 where
@@ -91,10 +92,13 @@ module _ (call : ℕ → Account ℕ → Result ℕ) (b : Buffer) (f s : List �
       no : Rooms b f o → false ≡ true
       no fits = sym none ∙ ap isFits (sym k ∙ fits .law f s (record { long = refl; held = sound-held b f s h }))
 
+  put-settled : (paid : Limits → Limits) (x : Bool) → settled b (costing paid (moving x (leaving (wroteBuffer i o b) true Done))) ≡ reply (putBuffer x i o (withLimitsOf (paid (grown (b .«out_len» .0 + o) (b .limits))) b)) Done
+  unfolding putBuffer wroteBuffer
+  put-settled paid x = simp (settled-at, changed)
+
   -- an act is asked for where it is, at a cost
   pub decided-writes : (Ask : Type 0) (Act : Bool → (run other run′ other′ : List ℕ) → Type 0) (paid : Limits → Limits) → sound b f s ≡ true → Needs call b f o → (Rooms b f o → Puts call b f i o paid (Act (overtakes b i o))) → (Rooms b f o → Ask)
       → v ≡ costing paid (moving (overtakes b i o) (bySize (roomFor (capacityOf (length f)) (b .«out_len» .0 + o) (b .limits)) b i o true)) → Decided call b f s (settled b v) (v .acts) Ask (Act (v .apart))
-  unfolding settled settledBuffer wroteBuffer putBuffer atPlaces withLimitsOf apartBuffer
   decided-writes Ask Act paid h r puts ask e = by-room (roomFor (capacityOf (length f)) (b .«out_len» .0 + o) (b .limits)) refl e
     where
       by-room : (room : Room) → roomFor (capacityOf (length f)) (b .«out_len» .0 + o) (b .limits) ≡ room → v ≡ costing paid (moving (overtakes b i o) (bySize room b i o true)) → Decided call b f s (settled b v) (v .acts) Ask (Act (v .apart))
@@ -103,7 +107,7 @@ module _ (call : ℕ → Account ℕ → Result ℕ) (b : Buffer) (f s : List �
           rw q (record {
             still = λ t. absurd (false≢true (sym t));
             asked = λ t. ask fits;
-            acted = λ t lf ls act. meets-sided h lf ls act (puts fits .law);
+            acted = λ t lf ls act. rw (put-settled paid (overtakes b i o)) (meets-sided h lf ls act (puts fits .law));
           })
       by-room GivesUp k q = decided-without h r GivesUp refl k q
       by-room Over k q = decided-without h r Over refl k q
@@ -164,8 +168,7 @@ module _ {b : Buffer} {run other : List ℕ} (v : Held b run other) (o : outputP
           model-done (accountOf b run other) (getD (cond (b .«have_separate_output») (glyphs other) (glyphs run)) (b .«out_len» .0 - 1) zeroGlyph) (take (b .«out_len» .0 - 1) (cond (b .«have_separate_output») (glyphs other) (glyphs run))) (rest-none v o k) (done-last v o (omega arith)) ∙ ap (λ (x : Glyph ℕ). x .info) (sym (model-last (b .«have_separate_output») (b .idx .0) (b .len .0) (b .«out_len» .0) run other k))
 
   rest-one : b .idx .0 < b .len .0 → take 1 ((accountOf b run other) .rest) ≡ copies ((modelOf b run other) .info) ((modelOf b run other) .glyph ∷ [])
-  unfolding copies
-  rest-one h = ap (take 1) (rest-first v o h) ∙ ap {B = List (Glyph ℕ)} (λ x. x ∷ []) (sym (model-first (b .«have_separate_output») (b .idx .0) (b .len .0) (b .«out_len» .0) run other h))
+  rest-one h = rw copies-one (ap (take 1) (rest-first v o h) ∙ ap {B = List (Glyph ℕ)} (λ x. x ∷ []) (sym (model-first (b .«have_separate_output») (b .idx .0) (b .len .0) (b .«out_len» .0) run other h)))
 
 -- ---- 0A and 0B, by their tests
 module _ {call : ℕ → Account ℕ → Result ℕ} {own x : Bool} {number : ℕ} {b : Buffer} {f s : List ℕ} {v : Verdict} where
@@ -202,7 +205,7 @@ module _ {b : Buffer} {f s : List ℕ} {v : Verdict} {m : ℕ} (h : sound b f s 
 
   -- with both lists empty only the size is made
   pub output-sizes : {t : Bool} {w : Verdict} {number : ℕ} → t ≡ false → t ≡ ltb (b .idx .0) (b .len .0 + b .«out_len» .0) → Writes m b 0 1 t w → v ≡ sizeAlone w → OutputDecided (λ capacity a. outputGlyph capacity number a) false number (v .apart) b f s v
-  unfolding wroteBuffer failedBuffer atPlaces withLimitsOf
+  unfolding wroteBuffer failedBuffer
   output-sizes {t} {w} {number} et es q ev = record { is = by-room (roomFor (capacityOf (length f)) (b .«out_len» .0 + 1) (b .limits)) refl (ev ∙ ap sizeAlone (rw (em, et) at (q .is))) }
     where
       few : b .len .0 + b .«out_len» .0 ≤ b .idx .0
@@ -225,12 +228,12 @@ module _ {b : Buffer} {f s : List ℕ} {v : Verdict} {m : ℕ} (h : sound b f s 
           let still : b .idx .0 + 0 ≡ b .idx .0 = omega arith in
           let l : Limits = grown (b .«out_len» .0 + 1) (b .limits) in
           decided-accepted h (record { near = near-limits b l; law = λ run other y. in-call (sizes y) (size-done (synced o y) 1 (room-of (b .«out_len» .0 + 1) y k) refl refl refl) })
-          (leaves-is (withLimitsOf l b) (e ∙ (λ j. record { idx = still j; len = b .len .0; «out_len» = sym empty j; limits = l; apart = false; acts = false; answer = Done })))
-      by-room GivesUp k e = decided-without _ b f s v 0 1 h needs GivesUp refl k (e ∙ (λ j. record { idx = b .idx .0; len = b .len .0; «out_len» = sym empty j; limits = failed (b .limits); apart = false; acts = false; answer = Done }))
+          (leaves-is (withLimitsOf l b) (e ∙ simp (changed, still, empty)))
+      by-room GivesUp k e = decided-without _ b f s v 0 1 h needs GivesUp refl k (e ∙ simp (changed, empty))
       by-room Over k e = decided-without _ b f s v 0 1 h needs Over refl k (e ∙ (λ j. record { idx = b .idx .0; len = b .len .0; «out_len» = sym empty j; limits = b .limits; apart = false; acts = false; answer = No OverCapacity }))
 
 -- ---- 0C
-module _ {b : Buffer} {f s : List ℕ} {v : Verdict} {g : Words} where
+module _ {b : Buffer} {f s : List ℕ} {v : Verdict} {g : GlyphInfo} where
   pub info-unsound : sound b f s ≡ false → Leaves b false (No Contradiction) v → InfoDecided g b f s v
   info-unsound h q = record { is = decided-unsound h q }
 
@@ -238,11 +241,10 @@ module _ {b : Buffer} {f s : List ℕ} {v : Verdict} {g : Words} where
   info-spoils h k q = record { is = decided-refused h (record { law = λ run other l. info-none _ _ (seen g .glyph) (seen g .info) (output-of b run other ∙ k) }) q }
 
   pub info-decided : {m : ℕ} → sound b f s ≡ true → outputPhase (b .phase) ≡ true → m ≡ capacityOf (length f) → Writes m b 0 1 true v → InfoDecided g b f s v
-  unfolding copies
   info-decided h o em q = record {
     is = decided-one _ b f s v (λ run other. seen g .info) (λ run other. seen g .glyph) _ (λ x. Wrote (b .«have_separate_output») x (b .«out_len» .0) (seen g ∷ []) 1) h o
         (λ run other l. info-writes _ _ (output-of b run other ∙ o) (seen g .glyph) (seen g .info))
-        (λ x run other run′ other′ act. act) (room-puttable h) em q;
+        (λ x run other run′ other′ act. rw copies-one act) (room-puttable h) em q;
   }
 
 -- for the proofs of functions

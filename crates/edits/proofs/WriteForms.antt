@@ -2,9 +2,9 @@
 use mathlib.Core.{Path._≡_, Bool.Bool, Bool.true, Bool.cond, List.List, List.[], List._∷_}
 use Prim.Native.Nat.{ℕ, _+_, _≤_}
 use Rattle.records.specs.{Glyphs.Info, Ranges.copies}
-use Rattle.lists.specs.declared.{Buffer.Buffer}
-use Rattle.lists.specs.{Account.Account, Account.outputPhase, Account.outLen, Account.sized, Results.Result, State.Held, States.atPlaces, States.apartBuffer}
-use Rattle.edits.specs.{Replaces.replaced, Writing.written, Writing.writing}
+use Rattle.lists.specs.declared.Buffer.{Buffer}
+use Rattle.lists.specs.{Account.Account, Account.outputPhase, Account.outLen, Account.sized, Account.Result, inner.Held.Held, inner.States.atPlaces, inner.States.apartBuffer}
+use Rattle.edits.specs.{inner.Replaces.replaced, Writing.written, Writing.writing}
 
 -- the size for num-out glyphs is there, in place of num-in of the input
 pub record Roomy (b : Buffer) (num-in num-out : ℕ) (run other : List ℕ) : Type 0 where

@@ -4,27 +4,26 @@ use Prim.Native.Nat.{ℕ, suc, _+_, _-_, _≤_, _<_}
 use native.Mathlib.Omega.{arith}
 use borrow.Author.Tests.{le-ltb, lt-ltb, eq-eqb, ne-eqb}
 use lib.{Dec.eqb, Dec.ltb, ListN.length, ListN.take, ListN.getD, Seq.slice, Seq.slice-cons, Seq.slice-empty, Seq.take-suc}
-use Rattle.records.specs.{WrongPhase, OutOfRange, Done, Limits, Counters.capacityOf, Counters.grown, Glyphs.Glyph, Glyphs.Info, Glyphs.blank, Ranges.copies, Ranges.infos, View.glyphs, View.zeroGlyph, View.wordsFrom}
-use Rattle.records.proofs.{View.length-glyphs, Renaming.append-map}
-use Rattle.lists.specs.declared.{Buffer.Buffer, Reply.Reply, Room.the-variants.Fits}
-use Rattle.lists.specs.{Account.Account, Account.outputPhase, Account.withGone, Account.hasOutput, Account.outLen, Account.failing, Account.sized, Cursor.dropping, Results.refused, Results.accepted, Results.refuse_when_else_, Results.needing, State.accountOf, State.Held, State.roomFor, States.reply, States.withLimitsOf}
+use Rattle.records.specs.{WrongPhase, OutOfRange, Done, Limits, Counters.capacityOf, Counters.grown, Glyphs.Glyph, Glyphs.Info, Glyphs.blank, Ranges.copies, Ranges.infos, View.glyphs, inner.Stores.zeroGlyph, View.wordsFrom}
+use Rattle.records.proofs.{Renaming.append-map}
+use Rattle.lists.proofs.Changed.{other-limits}
+use Rattle.lists.proofs.Showing.{done-list, rest-list}
+use Rattle.lists.specs.{declared.Buffer.Buffer, declared.Reply.Reply, declared.Room.the-variants.Fits}
+use Rattle.lists.specs.{Account.Account, Account.outputPhase, Account.withGone, Account.hasOutput, Account.outLen, Account.failing, Account.sized, Cursor.dropping, Account.refused, Account.accepted, Account.needing, Contract.accountOf, inner.Held.Held, inner.Held.roomFor, inner.States.reply, inner.States.withLimitsOf}
 use Rattle.lists.proofs.Sides.{MeetsIn, SyncOutput}
-use Rattle.lists.proofs.{Accounts.output-clean, Accounts.limits-of, Accounts.out-of, Accounts.rest-of, SizeLaws.needing-fits, SizeLaws.fits-within, Calls.in-accepted}
+use Rattle.lists.proofs.{Accounts.output-clean, Accounts.limits-of, Accounts.out-of, Accounts.rest-of, SizeLaws.needing-fits, Calls.in-accepted}
 use Rattle.edits.specs.{Writing.written, Writing.model, Writing.writing, Writing.copyGlyph, Writing.outputGlyph, Writing.outputInfo}
 use Rattle.edits.proofs.WriteForms.{Roomy, writesOne}
-use Rattle.lists.proofs.Inner.{limits-side, sized-of, held-limits}
+use Rattle.lists.proofs.Inner.{limits-side, sized-of, held-limits, roomy-grown}
 use Rattle.lists.proofs.SoundLaws.{out-fits}
 use Rattle.lists.proofs.Outputs.{output, shown-output}
+use Rattle.lists.proofs.Refusing.{refusing}
 
 -- ---- other limits
 module _ (b : Buffer) (run other : List ℕ) where
   module _ (v : Held b run other) where
     held-grown : (n : ℕ) → roomFor (capacityOf (length run)) n (b .limits) ≡ Fits → Held (withLimitsOf (grown n (b .limits)) b) run other
-    unfolding grown
-    held-grown n h =
-        let e : length (glyphs run) ≡ capacityOf (length run) = length-glyphs run in
-        let fit : n ≤ capacityOf (length run) = fits-within (capacityOf (length run)) n (b .limits) (omega (arith, v .all-in)) h in
-        held-limits b run other v (grown n (b .limits)) (omega arith) (omega (arith, v .all-in))
+    held-grown n h = let r = roomy-grown b run other v n h in held-limits b run other v (grown n (b .limits)) (r .grows) (r .within)
 
 -- ---- a size of n glyphs more, and then x
 module _ {b : Buffer} {run other : List ℕ} (v : SyncOutput b run other) (n : ℕ) (x : Account ℕ → Account ℕ) where
@@ -57,8 +56,7 @@ module _ {b : Buffer} {run other : List ℕ} (v : SyncOutput b run other) where
       (er ∙ ap (λ (k : Buffer). reply k Done) (eg ∙ ap (λ (k : Limits). withLimitsOf k b) el))
 
   pub grown-roomy : (m n : ℕ) → roomFor (capacityOf (length run)) (b .«out_len» .0 + n) (b .limits) ≡ Fits → b .idx .0 + m ≤ b .len .0 → Roomy (withLimitsOf (grown (b .«out_len» .0 + n) (b .limits)) b) m n run other
-  unfolding withLimitsOf grown
-  grown-roomy m n h k = record { held = held-grown b run other (v .held) (b .«out_len» .0 + n) h; output = v .output; in-len = k; in-size = omega arith }
+  grown-roomy m n h k = record { held = held-grown b run other (v .held) (b .«out_len» .0 + n) h; output = simp other-limits (v .output); in-len = simp other-limits k; in-size = simp other-limits (roomy-grown b run other (v .held) (b .«out_len» .0 + n) h .room) }
 
 pub dropping-none : (a : Account ℕ) → dropping 0 a ≡ a
 unfolding dropping withGone
@@ -69,8 +67,7 @@ dropping-none a =
 -- ---- what stands before the cursor, and last in the output
 module _ {b : Buffer} {run other : List ℕ} (v : Held b run other) (o : outputPhase (b .phase) ≡ true) where
   rest-is : (accountOf b run other) .rest ≡ slice (b .idx .0) (b .len .0) (glyphs run)
-  unfolding accountOf
-  rest-is = ap (slice (b .idx .0) (b .len .0)) (shown-output (b .phase) run other o)
+  rest-is = rest-list b run other ∙ ap (slice (b .idx .0) (b .len .0)) (shown-output (b .phase) run other o)
 
   pub rest-first : b .idx .0 < b .len .0 → (accountOf b run other) .rest ≡ getD (glyphs run) (b .idx .0) zeroGlyph ∷ slice (suc (b .idx .0)) (b .len .0) (glyphs run)
   rest-first h = rest-is ∙ slice-cons (b .idx .0) (b .len .0) (glyphs run) zeroGlyph h (omega (arith, v .len-in, v .all-in))
@@ -97,12 +94,11 @@ module _ {b : Buffer} {run other : List ℕ} (v : Held b run other) (o : outputP
 
   pub done-last : 0 < b .«out_len» .0
       → (accountOf b run other) .done ≡ take (b .«out_len» .0 - 1) (cond (b .«have_separate_output») (glyphs other) (glyphs run)) ++ (getD (cond (b .«have_separate_output») (glyphs other) (glyphs run)) (b .«out_len» .0 - 1) zeroGlyph ∷ [])
-  unfolding accountOf
   done-last h =
       let l : List (Glyph ℕ) = cond (b .«have_separate_output») (glyphs other) (glyphs run) in
       let e : b .«out_len» .0 ≡ suc (b .«out_len» .0 - 1) = omega arith in
       let fits : b .«out_len» .0 ≤ length l = out-fits v (b .«have_separate_output») in
-      ap (λ (k : ℕ). take k l) e ∙ take-suc l (b .«out_len» .0 - 1) zeroGlyph (omega arith)
+      done-list b run other ∙ (ap (λ (k : ℕ). take k l) e ∙ take-suc l (b .«out_len» .0 - 1) zeroGlyph (omega arith))
 
 pub last-apart : {A : Type 0} {s : Bool} {x : A} (run other : List A) (k : ℕ) (z : A) → s ≡ true → x ≡ getD other k z → x ≡ getD (cond s other run) k z
 last-apart run other k z h e = rw h e
@@ -127,37 +123,37 @@ module _ (a : Account ℕ) where
 -- ---- copy_glyph, output_info and output_glyph
 module _ (capacity : ℕ) (a : Account ℕ) where
   pub copy-none : hasOutput a ≡ false → copyGlyph capacity a ≡ refused WrongPhase
-  unfolding copyGlyph refuse_when_else_
-  copy-none h = rw h
+  unfolding copyGlyph
+  copy-none h = simp (h, refusing)
 
   pub info-none : (g : ℕ) (w : Info) → hasOutput a ≡ false → outputInfo capacity g w a ≡ refused WrongPhase
-  unfolding outputInfo refuse_when_else_
-  info-none g w h = rw h
+  unfolding outputInfo
+  info-none g w h = simp (h, refusing)
 
   pub glyph-none : (g : ℕ) → hasOutput a ≡ false → outputGlyph capacity g a ≡ refused WrongPhase
-  unfolding outputGlyph refuse_when_else_
-  glyph-none g h = rw h
+  unfolding outputGlyph
+  glyph-none g h = simp (h, refusing)
 
   module _ (h : hasOutput a ≡ true) where
     pub copy-outside : ltb (length (a .rest)) 1 ≡ true → copyGlyph capacity a ≡ refused OutOfRange
-    unfolding copyGlyph refuse_when_else_
-    copy-outside k = rw (h, k)
+    unfolding copyGlyph
+    copy-outside k = simp (h, k, refusing)
 
     pub copy-writes : ltb (length (a .rest)) 1 ≡ false → (w : Info) (number : ℕ) → take 1 (a .rest) ≡ copies w (number ∷ []) → copyGlyph capacity a ≡ writesOne w number capacity a
-    unfolding copyGlyph refuse_when_else_ writesOne
-    copy-writes k w number e = rw (h, k) (ap (λ (l : List (Glyph ℕ)). writing capacity 1 (written l (sized (outLen a + 1) a)) a) e)
+    unfolding copyGlyph writesOne
+    copy-writes k w number e = simp (h, k, refusing) (ap (λ (l : List (Glyph ℕ)). writing capacity 1 (written l (sized (outLen a + 1) a)) a) e)
 
     pub info-writes : (g : ℕ) (w : Info) → outputInfo capacity g w a ≡ writesOne w g capacity a
-    unfolding outputInfo refuse_when_else_ writesOne
-    info-writes g w = rw h
+    unfolding outputInfo writesOne
+    info-writes g w = simp (h, refusing)
 
     pub glyph-writes : (g : ℕ) (w : Info) → eqb (length (a .rest) + outLen a) 0 ≡ false → model a ≡ w → outputGlyph capacity g a ≡ writesOne w g capacity a
-    unfolding outputGlyph refuse_when_else_ writesOne
-    glyph-writes g w k e = rw (h, k) (ap (λ (i : Info). writing capacity 1 (written (copies i (g ∷ [])) (sized (outLen a + 1) a)) a) e)
+    unfolding outputGlyph writesOne
+    glyph-writes g w k e = simp (h, k, refusing) (ap (λ (i : Info). writing capacity 1 (written (copies i (g ∷ [])) (sized (outLen a + 1) a)) a) e)
 
     pub glyph-sizes : (g : ℕ) → eqb (length (a .rest) + outLen a) 0 ≡ true → outputGlyph capacity g a ≡ writing capacity 1 (sized (outLen a + 1) a) a
-    unfolding outputGlyph refuse_when_else_
-    glyph-sizes g k = rw (h, k)
+    unfolding outputGlyph
+    glyph-sizes g k = simp (h, k, refusing)
 
 -- for the proofs of functions
 pub ruleset last-glyph = (last-apart, last-within)

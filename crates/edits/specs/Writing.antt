@@ -1,43 +1,37 @@
 -- Writing: calls 0A to 0E.
-use mathlib.Core.{Bool.cond, Bool.not, List.List, List.[], List._∷_, List._++_, List.reverse}
-use Prim.Native.Nat.{ℕ, _+_, max}
-use lib.{Dec.eqb, Dec.ltb, ListN.take, ListN.length, ListN.getD}
+use Rattle.records.specs.Library.{ℕ, _+_, max, cond, not, eqb, ltb, List, [], _∷_, _++_, reverse, length, take, getD}
 use Rattle.records.specs.{WrongPhase, OutOfRange, BadOperand, Glyphs.Glyph, Glyphs.Info, Glyphs.blank, Ranges.infos, Ranges.copies}
-use Rattle.lists.specs.{Account.Account, Account.hasOutput, Account.outLen, Account.sized, Account.failing, Results.Result, Results.accepted, Results.refuse_when_else_, Results.needing, Cursor.dropping}
+use Rattle.lists.specs.{Account.Account, Account.hasOutput, Account.outLen, Account.sized, Account.failing, Account.Result, Account.accepted}
+use Rattle.lists.specs.{Account.refuse_when_else_, Account.needing, Cursor.dropping}
 use Rattle.edits.specs.Merging.{merge, clustersMerge}
 
 module _ {G : Type 0} where
-  unfoldable pub written : List (Glyph G) → Account G → Account G
+  unfoldable pub written : List (Glyph G) → Account G → Account G  -- these glyphs behind *done*
   written l a = record { done = a .done ++ l; passed = a .passed; rest = a .rest; state = a .state }
-
   -- "Copies are of its first", and of "the last done glyph" where *rest* is empty
   unfoldable pub model : Account G → Info
   model a = getD (infos (a .rest) ++ reverse (infos (a .done))) 0 (blank 0)
-
-  -- "needs .. size `out_len` + glyphs written; if it gives up, nothing else happens": n glyphs, which leave b
-  unfoldable pub writing : ℕ → ℕ → Account G → Account G → Result G
+  -- "size `out_len` + glyphs written; if it gives up, nothing else happens": b is the account where n glyphs fit
+  unfoldable pub writing : (capacity n : ℕ) (b a : Account G) → Result G
   writing capacity n b a = needing capacity (outLen a + n) a (accepted b) (accepted (failing a))
-
-  unfoldable pub copyGlyph : ℕ → Account G → Result G  -- 0A
+  unfoldable pub copyGlyph : (capacity : ℕ) → Account G → Result G  -- 0A
   copyGlyph capacity a =
       refuse WrongPhase when not (hasOutput a) else
       refuse OutOfRange when ltb (length (a .rest)) 1 else
       writing capacity 1 (written (take 1 (a .rest)) (sized (outLen a + 1) a)) a
-
-  -- "with *rest* empty copies the last done glyph; with both empty it only makes its size"
-  unfoldable pub outputGlyph : ℕ → G → Account G → Result G  -- 0B
+  -- "`output_glyph` with *rest* empty copies the last done glyph; with both empty it only makes its size."
+  unfoldable pub outputGlyph : (capacity : ℕ) → G → Account G → Result G  -- 0B
   outputGlyph capacity g a =
       let b = sized (outLen a + 1) a in
       refuse WrongPhase when not (hasOutput a) else
       writing capacity 1 (cond (eqb (length (a .rest) + outLen a) 0) b (written (copies (model a) (g ∷ [])) b)) a
-
-  unfoldable pub outputInfo : ℕ → G → Info → Account G → Result G  -- 0C
+  unfoldable pub outputInfo : (capacity : ℕ) → G → Info → Account G → Result G  -- 0C
   outputInfo capacity g i a =
       refuse WrongPhase when not (hasOutput a) else
       writing capacity 1 (written (copies i (g ∷ [])) (sized (outLen a + 1) a)) a
-
-  -- "makes its size, merges its inputs, then writes copies of the first (also for 0 inputs)"; "only 0D and 0E drop what they replace"
-  unfoldable pub replaceGlyphs : ℕ → ℕ → ℕ → List G → Account G → Result G  -- 0E; 0D is that of one by one
+  -- "`replace_glyphs` makes its size, merges its inputs, then writes copies of the first (also for 0 inputs)."; "only 0D and 0E drop what they replace";
+  -- "All but 0B and 0C need *rest* nonempty."
+  unfoldable pub replaceGlyphs : (capacity num-in num-out : ℕ) → List G → Account G → Result G  -- 0E; 0D is that of one by one
   replaceGlyphs capacity num-in num-out gs a =
       let b = merge (clustersMerge (a .state .level)) 0 num-in (sized (outLen a + num-out) a) in
       refuse WrongPhase when not (hasOutput a) else

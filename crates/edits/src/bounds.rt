@@ -3,11 +3,11 @@ ghost use mathlib.Core.Path.{_≡_};
 ghost use mathlib.Core.Option.{some};
 ghost use Prim.Native.Nat.{min};
 ghost use Rattle.edits.specs.Flags.{tooFar, startOf, endOf};
-ghost use Rattle.edits.specs.Bounds.{inputNumber, doneNumber};
+ghost use Rattle.edits.specs.inner.BoundNumbers.{inputNumber, doneNumber};
 use super::DoneBound;
 use super::InputBound;
 
-pub fn input_start(b: InputBound) -> usize
+pub(crate) fn input_start(b: InputBound) -> usize
     ensures { λ r. ⌜ r ≡ startOf (inputNumber b) ⌝ }
 {
     match b {
@@ -16,7 +16,7 @@ pub fn input_start(b: InputBound) -> usize
     }
 }
 
-pub fn done_start(b: DoneBound) -> usize
+pub(crate) fn done_start(b: DoneBound) -> usize
     ensures { λ r. ⌜ r ≡ startOf (doneNumber b) ⌝ }
 {
     match b {
@@ -31,7 +31,7 @@ fn lesser_place(a: usize, b: usize) -> usize
     if a < b { a } else { b }
 }
 
-pub fn input_end(b: InputBound, len: usize) -> usize
+pub(crate) fn input_end(b: InputBound, len: usize) -> usize
     ensures { λ r. ⌜ r ≡ endOf (inputNumber b) len ⌝ }
 {
     match b {
@@ -50,7 +50,7 @@ fn ends_too_far(start: usize, end: InputBound) -> bool
     }
 }
 
-pub fn input_too_far(start: InputBound, end: InputBound) -> bool
+pub(crate) fn input_too_far(start: InputBound, end: InputBound) -> bool
     ensures { λ r. ⌜ r ≡ tooFar (inputNumber start) (inputNumber end) ⌝ }
 {
     match start {
@@ -59,7 +59,7 @@ pub fn input_too_far(start: InputBound, end: InputBound) -> bool
     }
 }
 
-pub fn done_too_far(start: DoneBound, end: InputBound) -> bool
+pub(crate) fn done_too_far(start: DoneBound, end: InputBound) -> bool
     ensures { λ r. ⌜ r ≡ tooFar (doneNumber start) (inputNumber end) ⌝ }
 {
     match start {

@@ -5,12 +5,12 @@ ghost use mathlib.Core.Bool.{cond};
 ghost use Prim.Native.Nat.{_<_};
 ghost use lib.ListN.{length, getD, set};
 ghost use Rattle.records.specs.Glyphs.{zeroPosition};
-ghost use Rattle.records.specs.View.{placements};
+ghost use Rattle.records.specs.View.{positionsIn};
 ghost use Rattle.lists.specs.Contract.{Meets};
-ghost use Rattle.lists.specs.Verdicts.{Sided};
+ghost use Rattle.lists.specs.inner.Verdicts.{Sided};
 ghost use Rattle.edits.specs.Deleting.{deleteGlyphsInplace};
-ghost use Rattle.edits.specs.Deletes.{MoveRoom, MovesGlyph, Sifts};
-ghost use Rattle.edits.specs.Wholes.{RunRoom};
+ghost use Rattle.edits.specs.inner.Deletes.{MoveRoom, MovesGlyph, Sifts};
+ghost use Rattle.edits.specs.inner.Wholes.{RunRoom};
 use super::Kept;
 use super::deleting;
 use super::merge_acts;
@@ -23,8 +23,8 @@ use records::Limits;
 
 // A position goes to another place, where there are positions.
 fn move_position(ws: &mut [u32], positions: bool, from: usize, to: usize)
-    requires { ⌜ (from < length (placements (now ws))) × (to < length (placements (now ws))) ⌝ }
-    ensures { λ r. ⌜ placements (now (ws .exit)) ≡ cond positions (set (placements (now (ws .entry))) to (getD (placements (now (ws .entry))) from zeroPosition)) (placements (now (ws .entry))) ⌝ }
+    requires { ⌜ (from < length (positionsIn (now ws))) × (to < length (positionsIn (now ws))) ⌝ }
+    ensures { λ r. ⌜ positionsIn (now (ws .exit)) ≡ cond positions (set (positionsIn (now (ws .entry))) to (getD (positionsIn (now (ws .entry))) from zeroPosition)) (positionsIn (now (ws .entry))) ⌝ }
 {
     if positions {
         let p = records::positions::get(ws, from);

@@ -1,8 +1,8 @@
 // The masks of groups, from one table: document 02, N3.
 ghost use mathlib.Core.Path.{_≡_};
 ghost use Prim.Native.Nat.{_<_};
-ghost use Rattle.edits.specs.FlagTable.{flagTable};
-ghost use Rattle.edits.specs.Groups.{settled};
+ghost use Rattle.edits.specs.Groups.{flagTable};
+ghost use Rattle.edits.specs.Groups.{settledMask};
 
 // At 8 × wants + joined bits, in the order of the course book.
 pub(crate) const FLAG_TABLE: [u32; 32] = [
@@ -47,7 +47,7 @@ pub(crate) const FLAG_TABLE: [u32; 32] = [
 // The mask of a group with these joined bits. The remainder: a state that is handed in may have any wants.
 pub(crate) fn group_mask(table: &[u32], wants: u32, joined: u32) -> u32
     requires { ⌜ (now table ≡ flagTable) × (joined < 8) ⌝ }
-    ensures { λ r. ⌜ r ≡ settled wants joined ⌝ }
+    ensures { λ r. ⌜ r ≡ settledMask wants joined ⌝ }
 {
     let place = 8 * (wants % 4) + joined;
     table[place as usize]

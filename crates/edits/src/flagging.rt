@@ -2,11 +2,11 @@
 ghost use mathlib.Core.Path.{_≡_};
 ghost use mathlib.Core.Bool.{true, false, cond, not, _||_};
 ghost use lib.Dec.{ltb};
-ghost use Rattle.lists.specs.State.{goneOf};
+ghost use Rattle.lists.specs.Contract.{goneOf};
 ghost use Rattle.lists.specs.Contract.{Meets};
 ghost use Rattle.edits.specs.Flags.{wantsConcat, wantsTatweel, plainForm, outbufferForm};
-ghost use Rattle.edits.specs.Bounds.{inputBound, doneBound};
-ghost use Rattle.edits.specs.Marks.{FlagsInput, FlagsOut};
+ghost use Rattle.edits.specs.Flags.{inputBound, doneBound};
+ghost use Rattle.edits.specs.inner.Marks.{FlagsInput, FlagsOut};
 use super::DoneBound;
 use super::InputBound;
 use super::bounds;

@@ -66,7 +66,7 @@ pub(crate) fn mark_interior(ws: &mut [u32], level: u32, cluster: u32, bits: u32,
     }
 }
 
-pub fn lesser(a: u32, b: u32) -> u32
+pub(crate) fn lesser(a: u32, b: u32) -> u32
     ensures { λ r. ⌜ r ≡ min a b ⌝ }
 {
     if a < b { a } else { b }

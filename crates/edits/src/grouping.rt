@@ -1,9 +1,9 @@
 // Groups of neighbours in the whole run: what calls 1E and 22 make of each grapheme.
 ghost use Rattle.lists.specs.Contract.{Meets};
-ghost use Rattle.lists.specs.Verdicts.{Sided};
+ghost use Rattle.lists.specs.inner.Verdicts.{Sided};
 ghost use Rattle.edits.specs.Groups.{formClusters};
-ghost use Rattle.edits.specs.Charges.{MergesEach};
-ghost use Rattle.edits.specs.Wholes.{RunRoom};
+ghost use Rattle.edits.specs.inner.Charges.{MergesEach};
+ghost use Rattle.edits.specs.inner.Wholes.{RunRoom};
 use super::merge_acts;
 use super::merges;
 use super::whole;

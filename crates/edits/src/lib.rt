@@ -3,20 +3,20 @@ use records::DonePlace;
 use records::InputPlace;
 use records::Limits;
 
-pub mod bounds;
+mod bounds;
 pub mod deleting;
 pub mod deleting_inplace;
 pub mod filling;
 mod flag_table;
 pub mod flagging;
-pub mod flags;
+mod flags;
 pub mod grouping;
 pub mod lent;
-pub mod marking;
+mod marking;
 mod merge_acts;
 mod merge_verdicts;
 pub mod merges;
-pub mod merging;
+mod merging;
 mod numbers;
 pub mod propagating;
 mod puts;
@@ -25,7 +25,7 @@ mod replace_acts;
 pub mod replacing;
 pub mod reversing;
 pub mod sorting;
-pub mod whole;
+mod whole;
 pub mod writing;
 
 // What a merge of a range changes: m, the cluster of the range's first glyph, the range as it grew, and whether the

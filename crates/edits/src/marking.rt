@@ -7,10 +7,10 @@ ghost use lib.Seq.{slice};
 ghost use Rattle.records.specs.Ranges.{clusters};
 ghost use Rattle.records.specs.View.{glyphs};
 ghost use Rattle.lists.specs.Account.{readLevel};
-ghost use Rattle.lists.specs.Contract.{exchanged};
-ghost use Rattle.lists.specs.Verdicts.{Sided};
+ghost use Rattle.lists.specs.inner.Held.{exchanged};
+ghost use Rattle.lists.specs.inner.Verdicts.{Sided};
 ghost use Rattle.edits.specs.Flags.{sought};
-ghost use Rattle.edits.specs.Marks.{flaggedRun, soughtIn, Flaggable, OutFlaggable, Flagged, Marked, OutFlagged};
+ghost use Rattle.edits.specs.inner.Marks.{flaggedRun, soughtIn, Flaggable, OutFlaggable, Flagged, Marked, OutFlagged};
 use super::flags;
 
 // A plain form on the run.

@@ -1,8 +1,8 @@
 // Merges by places: the glyphs of a merge, in whichever slice they lie, and what it costs.
 ghost use mathlib.Core.Path.{_≡_};
-ghost use Rattle.lists.specs.Verdicts.{Sided};
-ghost use Rattle.edits.specs.Charges.{MergesRun};
-ghost use Rattle.edits.specs.MergeActs.{mergeLimits, MergeRoom, Merges, OutMergeRoom, OutMerges};
+ghost use Rattle.lists.specs.inner.Verdicts.{Sided};
+ghost use Rattle.edits.specs.inner.Charges.{MergesRun};
+ghost use Rattle.edits.specs.inner.MergeActs.{mergeLimits, MergeRoom, Merges, OutMergeRoom, OutMerges};
 use super::flags;
 use super::merging;
 use records::Limits;

@@ -1,8 +1,8 @@
 // What merges come to: from the state, the lengths of the slices and the operands. No glyph is read.
 ghost use mathlib.Core.Bool.{true};
-ghost use Rattle.lists.specs.States.{withLimitsOf};
-ghost use Rattle.lists.specs.Verdicts.{Leaves};
-ghost use Rattle.edits.specs.MergeActs.{mergeLimits, MergesInput, MergesDone};
+ghost use Rattle.lists.specs.inner.States.{withLimitsOf};
+ghost use Rattle.lists.specs.inner.Verdicts.{Leaves};
+ghost use Rattle.edits.specs.inner.MergeActs.{mergeLimits, MergesInput, MergesDone};
 use super::merge_acts;
 use super::merges;
 use lists::Buffer;

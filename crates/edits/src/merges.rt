@@ -3,10 +3,10 @@ ghost use mathlib.Core.Path.{_≡_};
 ghost use mathlib.Core.Bool.{_||_};
 ghost use lib.Dec.{ltb};
 ghost use Rattle.lists.specs.Account.{readLevel};
-ghost use Rattle.lists.specs.State.{goneOf};
+ghost use Rattle.lists.specs.Contract.{goneOf};
 ghost use Rattle.lists.specs.Contract.{Meets};
 ghost use Rattle.edits.specs.Merging.{mergeInput, mergeDone, clustersMerge, graphemesMerge};
-ghost use Rattle.edits.specs.MergeActs.{liesApart};
+ghost use Rattle.edits.specs.inner.MergeActs.{liesApart};
 use super::merge_acts;
 use super::merge_verdicts;
 use lists::Buffer;
@@ -28,13 +28,13 @@ pub(crate) fn lies_apart(b: Buffer) -> bool
     false
 }
 
-pub fn clusters_merge(level: u32) -> bool
+pub(crate) fn clusters_merge(level: u32) -> bool
     ensures { λ r. ⌜ r ≡ clustersMerge (readLevel level) ⌝ }
 {
     state::read_level(level) <= 1
 }
 
-pub fn graphemes_merge(level: u32) -> bool
+pub(crate) fn graphemes_merge(level: u32) -> bool
     ensures { λ r. ⌜ r ≡ graphemesMerge (readLevel level) ⌝ }
 {
     let known = state::read_level(level);
@@ -45,7 +45,7 @@ pub fn graphemes_merge(level: u32) -> bool
 }
 
 // How many glyphs of the input no list shows.
-pub fn gone(b: Buffer) -> usize
+pub(crate) fn gone(b: Buffer) -> usize
     ensures { λ r. ⌜ r ≡ goneOf b ⌝ }
 {
     let phase = b.phase;
@@ -58,7 +58,7 @@ pub fn gone(b: Buffer) -> usize
 }
 
 // Whether s to e is no range of the input that a list shows.
-pub fn outside_input(b: Buffer, s: usize, e: usize) -> bool
+pub(crate) fn outside_input(b: Buffer, s: usize, e: usize) -> bool
     ensures { λ r. ⌜ r ≡ (ltb e s || (ltb (b .len .0) e || ltb s (goneOf b))) ⌝ }
 {
     if e < s {

@@ -7,8 +7,8 @@ ghost use lib.Seq.{slice};
 ghost use Rattle.records.specs.Ranges.{clusters};
 ghost use Rattle.records.specs.View.{glyphs};
 ghost use Rattle.edits.specs.Merging.{mergeStart, mergeEnd};
-ghost use Rattle.edits.specs.Holding.{cut};
-ghost use Rattle.edits.specs.Plans.{MergeRange, mergePlan, tailStart, Mergeable, WrittenApart, WrittenWithin, outPlan, headEnd, OutWritable, WrittenOutApart, WrittenOutWithin};
+ghost use Rattle.edits.specs.inner.Holding.{cut};
+ghost use Rattle.edits.specs.inner.Plans.{MergeRange, mergePlan, tailStart, Mergeable, WrittenApart, WrittenWithin, outPlan, headEnd, OutWritable, WrittenOutApart, WrittenOutWithin};
 use super::Merge;
 use super::OutMerge;
 

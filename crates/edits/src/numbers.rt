@@ -2,7 +2,7 @@
 ghost use mathlib.Core.Path.{_≡_};
 ghost use Prim.Native.Nat.{_<_, _≤_, _^_};
 ghost use lib.ListN.{length, getD};
-ghost use Rattle.edits.specs.Acts.{given};
+ghost use Rattle.edits.specs.inner.Acts.{given};
 
 // How many there are.
 pub fn count(numbers: &[u32], bytes: &[u8]) -> usize

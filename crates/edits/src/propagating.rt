@@ -6,13 +6,13 @@ ghost use lib.ListN.{length, getD, set};
 ghost use lib.Seq.{slice};
 ghost use Rattle.records.specs.Glyphs.{Info, change, withMask};
 ghost use Rattle.records.specs.Ranges.{infos, edit};
-ghost use Rattle.records.specs.View.{glyphs, zeroGlyph};
-ghost use Rattle.lists.specs.Masks.{joinedLow};
+ghost use Rattle.records.specs.{View.glyphs, inner.Stores.zeroGlyph};
+ghost use Rattle.lists.specs.inner.Masks.{joinedLow};
 ghost use Rattle.lists.specs.Contract.{Meets};
-ghost use Rattle.lists.specs.Verdicts.{Sided};
-ghost use Rattle.edits.specs.FlagTable.{flagTable};
-ghost use Rattle.edits.specs.Groups.{settled, propagateFlags};
-ghost use Rattle.edits.specs.Propagating.{Propagates, PropagatesRun};
+ghost use Rattle.lists.specs.inner.Verdicts.{Sided};
+ghost use Rattle.edits.specs.Groups.{flagTable};
+ghost use Rattle.edits.specs.Groups.{settledMask, propagateFlags};
+ghost use Rattle.edits.specs.inner.Propagating.{Propagates, PropagatesRun};
 use super::flag_table;
 use super::whole;
 use lists::Buffer;
@@ -22,7 +22,7 @@ use lists::verdicts;
 // The mask of one glyph becomes what the table has at its bits.
 fn propagate_one(run: &mut [u32], table: &[u32], wants: u32, s: usize)
     requires { ⌜ (now table ≡ flagTable) × (s < length (glyphs (now run))) ⌝ }
-    ensures { λ r. ⌜ glyphs (now (run .exit)) ≡ set (glyphs (now (run .entry))) s (change (withMask (settled wants (getD (glyphs (now (run .entry))) s zeroGlyph .info .mask % 8))) (getD (glyphs (now (run .entry))) s zeroGlyph)) ⌝ }
+    ensures { λ r. ⌜ glyphs (now (run .exit)) ≡ set (glyphs (now (run .entry))) s (change (withMask (settledMask wants (getD (glyphs (now (run .entry))) s zeroGlyph .info .mask % 8))) (getD (glyphs (now (run .entry))) s zeroGlyph)) ⌝ }
 {
     let mask = flag_table::group_mask(table, wants, records::glyphs::mask_at(run, s) % 8);
     records::glyphs::set_mask(run, s, mask);
@@ -31,7 +31,7 @@ fn propagate_one(run: &mut [u32], table: &[u32], wants: u32, s: usize)
 // The masks of a group become what the table has at their joined bits.
 fn propagate_group(run: &mut [u32], table: &[u32], wants: u32, s: usize, e: usize)
     requires { ⌜ (now table ≡ flagTable) × (s ≤ e) × (e ≤ length (glyphs (now run))) ⌝ }
-    ensures { λ r. ⌜ glyphs (now (run .exit)) ≡ edit s e (withMask (settled wants (joinedLow (slice s e (map (λ (i : Info). i .mask) (infos (glyphs (now (run .entry))))))))) (glyphs (now (run .entry))) ⌝ }
+    ensures { λ r. ⌜ glyphs (now (run .exit)) ≡ edit s e (withMask (settledMask wants (joinedLow (slice s e (map (λ (i : Info). i .mask) (infos (glyphs (now (run .entry))))))))) (glyphs (now (run .entry))) ⌝ }
 {
     if e - s == 1 {
         propagate_one(run, table, wants, s);

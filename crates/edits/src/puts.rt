@@ -3,13 +3,13 @@ ghost use mathlib.Core.Path.{_≡_};
 ghost use mathlib.Core.Bool.{cond};
 ghost use mathlib.Core.List.{[], _∷_};
 ghost use Rattle.records.specs.View.{seen};
-ghost use Rattle.lists.specs.Verdicts.{Sided};
-ghost use Rattle.edits.specs.Puts.{Puttable, Wrote, Modelled, Outputable, Outputs};
+ghost use Rattle.lists.specs.inner.Verdicts.{Sided};
+ghost use Rattle.edits.specs.inner.Puts.{Puttable, Wrote, Modelled, Outputable, Outputs};
 use super::writing;
-use records::Glyph;
+use records::GlyphInfo;
 
 // The same glyph under another number.
-pub(crate) fn numbered(g: Glyph, number: u32) -> Glyph
+pub(crate) fn numbered(g: GlyphInfo, number: u32) -> GlyphInfo
     ensures { λ r. ⌜ seen r ≡ record { glyph = number; info = seen g .info } ⌝ }
 {
     let mut r = g;
@@ -18,7 +18,7 @@ pub(crate) fn numbered(g: Glyph, number: u32) -> Glyph
 }
 
 // g goes behind the output, which ends at `to`.
-fn put_one(run: &mut [u32], other: &mut [u32], separate: bool, apart: bool, to: usize, g: Glyph)
+fn put_one(run: &mut [u32], other: &mut [u32], separate: bool, apart: bool, to: usize, g: GlyphInfo)
     requires { ⌜ Puttable to 1 (now run) (now other) ⌝ }
     ensures { λ r. ⌜ Wrote separate apart to (seen g ∷ []) 1 (now (run .entry)) (now (other .entry)) (now (run .exit)) (now (other .exit)) ⌝ }
 {
@@ -42,7 +42,7 @@ pub(crate) fn put_by(
     separate: bool,
     apart: bool,
     to: usize,
-    g: Glyph,
+    g: GlyphInfo,
 )
     requires { ⌜ Puttable to 1 (now first) (now second) ⌝ }
     ensures { λ r. ⌜ Sided swapped (Wrote separate apart to (seen g ∷ []) 1) (now (first .entry)) (now (second .entry)) (now (first .exit)) (now (second .exit)) ⌝ }
@@ -62,7 +62,7 @@ fn model(
     idx: usize,
     len: usize,
     out_len: usize,
-) -> Glyph
+) -> GlyphInfo
     requires { ⌜ Outputable idx len «out_len» (now run) (now other) ⌝ }
     ensures { λ r. ⌜ Modelled separate idx len «out_len» (now (run .entry)) (now (other .entry)) (seen r) ⌝ }
 {
@@ -73,7 +73,7 @@ fn model(
 }
 
 // The glyph's own number, or another.
-fn number_of(g: Glyph, own: bool, number: u32) -> u32
+fn number_of(g: GlyphInfo, own: bool, number: u32) -> u32
     ensures { λ r. ⌜ r ≡ cond own (seen g .glyph) number ⌝ }
 {
     if own {

@@ -5,18 +5,18 @@ ghost use Prim.Native.Nat.{_+_, _≤_};
 ghost use lib.ListN.{length};
 ghost use Rattle.records.specs.View.{glyphs, seen};
 ghost use Rattle.records.specs.Ranges.{copies};
-ghost use Rattle.lists.specs.Copied.{copied};
-ghost use Rattle.lists.specs.Verdicts.{Sided};
-ghost use Rattle.edits.specs.Acts.{given};
-ghost use Rattle.edits.specs.MergeActs.{MergeRoom, Merges};
-ghost use Rattle.edits.specs.Puts.{Puttable, Wrote, Replaceable, Replaces};
+ghost use Rattle.lists.specs.inner.Copied.{copied};
+ghost use Rattle.lists.specs.inner.Verdicts.{Sided};
+ghost use Rattle.edits.specs.inner.Acts.{given};
+ghost use Rattle.edits.specs.inner.MergeActs.{MergeRoom, Merges};
+ghost use Rattle.edits.specs.inner.Puts.{Puttable, Wrote, Replaceable, Replaces};
 use super::merge_acts;
 use super::numbers::number_at;
 use super::puts;
-use records::Glyph;
+use records::GlyphInfo;
 
 // A glyph for each of the first n numbers, from place `at` on, with the other words of g.
-fn put_copies(ws: &mut [u32], at: usize, g: Glyph, numbers: &[u32], bytes: &[u8], n: usize)
+fn put_copies(ws: &mut [u32], at: usize, g: GlyphInfo, numbers: &[u32], bytes: &[u8], n: usize)
     requires { ⌜ (at + n ≤ length (glyphs (now ws))) × (n ≤ length (given (now numbers) (now bytes))) ⌝ }
     ensures { λ r. ⌜ glyphs (now (ws .exit)) ≡ copied (glyphs (now (ws .entry))) at (copies (seen g .info) (given (now (numbers .entry)) (now (bytes .entry)))) 0 n ⌝ }
 {
@@ -34,7 +34,7 @@ fn write_copies(
     separate: bool,
     apart: bool,
     to: usize,
-    g: Glyph,
+    g: GlyphInfo,
     numbers: &[u32],
     bytes: &[u8],
     n: usize,

@@ -3,8 +3,8 @@ ghost use mathlib.Core.Path.{_≡_};
 ghost use mathlib.Core.Bool.{_||_};
 ghost use lib.Dec.{ltb};
 ghost use Rattle.lists.specs.Account.{outputPhase, spoiledPhase};
-ghost use Rattle.edits.specs.Wholes.{TakesWhole};
-ghost use Rattle.edits.specs.Charges.{TakesKeyed};
+ghost use Rattle.edits.specs.inner.Wholes.{TakesWhole};
+ghost use Rattle.edits.specs.inner.Charges.{TakesKeyed};
 use lists::Buffer;
 use lists::Verdict;
 use lists::state;
@@ -13,7 +13,7 @@ use records::Answer;
 use records::Refusal;
 
 // Whether there is output, or no list, or a cursor past the start.
-pub fn not_whole(b: Buffer) -> bool
+pub(crate) fn not_whole(b: Buffer) -> bool
     ensures { λ r. ⌜ r ≡ (outputPhase (b .phase) || (spoiledPhase (b .phase) || ltb 0 (b .idx .0))) ⌝ }
 {
     let phase = b.phase;

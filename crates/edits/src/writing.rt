@@ -3,18 +3,18 @@ ghost use mathlib.Core.Path.{_≡_};
 ghost use mathlib.Core.Bool.{cond, true, false};
 ghost use Prim.Native.Nat.{_+_, _-_, _≤_, _<_, _^_};
 ghost use lib.ListN.{length, getD};
-ghost use Rattle.records.specs.View.{glyphs, seen, zeroGlyph};
+ghost use Rattle.records.specs.{View.glyphs, View.seen, inner.Stores.zeroGlyph};
 ghost use Rattle.lists.specs.Contract.{Meets};
-ghost use Rattle.lists.specs.Verdicts.{settled};
+ghost use Rattle.lists.specs.inner.Verdicts.{settled};
 ghost use Rattle.edits.specs.Writing.{copyGlyph, outputGlyph, outputInfo};
-ghost use Rattle.edits.specs.Puts.{overtakes, lying, Writes, InfoDecided, OutputDecided, sizeAlone};
+ghost use Rattle.edits.specs.inner.Puts.{overtakes, lying, Writes, InfoDecided, OutputDecided, sizeAlone};
 use super::puts;
 use lists::Buffer;
 use lists::Reply;
 use lists::Verdict;
 use lists::state;
 use lists::verdicts;
-use records::Glyph;
+use records::GlyphInfo;
 use records::Refusal;
 
 // Whether num_out glyphs behind the output, in place of num_in of the input, would overtake the cursor.
@@ -93,7 +93,7 @@ pub fn copy_glyph(b: Buffer, first: &mut [u32], second: &mut [u32]) -> Reply
     verdicts::settled(b, v)
 }
 
-fn info_verdict(b: Buffer, first: &[u32], second: &[u32], g: Glyph) -> Verdict
+fn info_verdict(b: Buffer, first: &[u32], second: &[u32], g: GlyphInfo) -> Verdict
     ensures { λ v. ⌜ InfoDecided g b (now (first .entry)) (now (second .entry)) v ⌝ }
 {
     if state::is_sound(b, first, second) {
@@ -107,7 +107,7 @@ fn info_verdict(b: Buffer, first: &[u32], second: &[u32], g: Glyph) -> Verdict
 }
 
 // 0C
-pub fn output_info(b: Buffer, first: &mut [u32], second: &mut [u32], g: Glyph) -> Reply
+pub fn output_info(b: Buffer, first: &mut [u32], second: &mut [u32], g: GlyphInfo) -> Reply
     ensures { λ r. ⌜ Meets (λ capacity a. outputInfo capacity (seen g .glyph) (seen g .info) a) b (now (first .entry)) (now (second .entry)) r (now (first .exit)) (now (second .exit)) ⌝ }
 {
     let v = info_verdict(b, first, second, g);
@@ -126,7 +126,7 @@ pub fn output_info(b: Buffer, first: &mut [u32], second: &mut [u32], g: Glyph) -
 }
 
 // The last glyph of the output, in whichever slice it lies.
-pub(crate) fn last_done(run: &[u32], other: &[u32], separate: bool, out_len: usize) -> Glyph
+pub(crate) fn last_done(run: &[u32], other: &[u32], separate: bool, out_len: usize) -> GlyphInfo
     requires { ⌜ (1 ≤ «out_len») × («out_len» ≤ length (glyphs (now run))) × («out_len» ≤ length (glyphs (now other))) ⌝ }
     ensures { λ r. ⌜ seen r ≡ getD (cond separate (glyphs (now (other .entry))) (glyphs (now (run .entry)))) («out_len» - 1) zeroGlyph ⌝ }
 {

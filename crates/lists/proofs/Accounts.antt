@@ -3,12 +3,12 @@ use mathlib.Core.{Path._≡_, Path.refl, Path.sym, Path.ap, Path._∙_, Bool.Boo
 use Prim.Native.Nat.{ℕ, _+_, _-_, _≤_}
 use native.Mathlib.Omega.{arith}
 use lib.{ListN.length, ListN.take, Seq.length-slice, Seq.length-take-le, Seq.take-nil, Seq.drop-nil}
-use Rattle.records.specs.{Phase, Plain, Output, Positions, Spoiled, Limits, View.glyphs, View.placements}
-use Rattle.records.proofs.View.{glyphs-same, placements-glyphs, length-paired}
-use Rattle.lists.specs.declared.{Buffer.Buffer}
-use Rattle.lists.specs.Account.{outputPhase, positionsPhase, spoiledPhase, hasOutput, hasPositions, isSpoiled, len, idx, outLen, limiting, withLimits, readLevel}
-use Rattle.lists.specs.State.{shown, goneOf, stateOf, accountOf, Held}
-use Rattle.lists.specs.States.{withLimitsOf}
+use Rattle.records.specs.{Phase, Plain, Output, Positions, Spoiled, Limits, View.glyphs, View.positionsIn}
+use Rattle.records.proofs.View.{glyphs-same, positions-glyphs, length-paired}
+use Rattle.lists.specs.declared.Buffer.{Buffer}
+use Rattle.lists.specs.Account.{Account, outputPhase, positionsPhase, spoiledPhase, hasOutput, hasPositions, isSpoiled, len, idx, outLen, limiting, withLimits, readLevel}
+use Rattle.lists.specs.{Contract.shown, Contract.goneOf, Contract.stateOf, Contract.accountOf, Contract.account, inner.Held.Held}
+use Rattle.lists.specs.inner.States.{withLimitsOf}
 
 -- ---- phases
 
@@ -29,8 +29,17 @@ pub length-shown : (p : Phase) (run other : List ℕ) → spoiledPhase p ≡ fal
 unfolding shown
 length-shown Plain run other h = refl
 length-shown Output run other h = refl
-length-shown Positions run other h = length-paired (glyphs run) (placements other)
+length-shown Positions run other h = length-paired (glyphs run) (positionsIn other)
 length-shown Spoiled run other h = absurd (false≢true (sym h))
+
+-- either slice may hold the run: what holds of both holds of the account
+pub either-slice : (b : Buffer) (f s : List ℕ) (P : Account ℕ → Type 0) → P (accountOf b s f) → P (accountOf b f s) → P (account b f s)
+unfolding account
+either-slice b f s P p q = by (b .swapped)
+  where
+    by : (t : Bool) → P (cond t (accountOf b s f) (accountOf b f s))
+    by true = p
+    by false = q
 
 -- how much no list shows, by the phase
 pub gone-by : (b : Buffer) (p : Phase) → b .phase ≡ p → goneOf b ≡ elim p as (λ x. ℕ) [ Plain ↦ 0 | Output ↦ b .idx .0 | Positions ↦ 0 | Spoiled ↦ b .len .0 ]
@@ -115,8 +124,8 @@ module _ (b : Buffer) (run other : List ℕ) where
       unfolding len
       len-of = omega (arith, gone-of, passed-of, gone-in, rest-of)
 
-    pub places-in : b .len .0 ≤ length (placements other)
-    places-in = let e : length (glyphs run) ≡ length (glyphs other) = glyphs-same run other (v .same) in let p : length (placements other) ≡ length (glyphs other) = placements-glyphs other in omega arith
+    pub places-in : b .len .0 ≤ length (positionsIn other)
+    places-in = let e : length (glyphs run) ≡ length (glyphs other) = glyphs-same run other (v .same) in let p : length (positionsIn other) ≡ length (glyphs other) = positions-glyphs other in omega arith
 
     -- in every phase
     pub gone-within : goneOf b ≤ b .len .0

@@ -5,11 +5,11 @@ use native.Mathlib.Omega.{arith}
 use borrow.Author.Tests.{le-ltb, lt-ltb}
 use lib.{Dec.ltb, ListN.length}
 use Rattle.records.specs.{WrongPhase, OutOfRange, OverCapacity, Value, No, Limits, Answers.said, Counters.capacityOf, Counters.isNegative, Counters.costs, Counters.failed, Counters.grown, View.wordsFrom}
-use Rattle.lists.specs.declared.{Buffer.Buffer, Reply.Reply, Room.the-variants.Fits, Room.the-variants.GivesUp, Room.the-variants.Over}
+use Rattle.lists.specs.{declared.Buffer.Buffer, declared.Reply.Reply, declared.Room.the-variants.Fits, declared.Room.the-variants.GivesUp, declared.Room.the-variants.Over}
 use Rattle.lists.specs.Account.{Account, withGone, outputPhase, spoiledPhase, hasOutput, isSpoiled, len, idx, outLen, paying, failing, sized}
-use Rattle.lists.specs.Results.{refuse_when_else_, Result, refused, answered, outcome, needing}
-use Rattle.lists.specs.State.{accountOf, Held, roomFor}
-use Rattle.lists.specs.States.{reply, withLimitsOf, atPlaces}
+use Rattle.lists.specs.Account.{refuse_when_else_, Result, refused, answered, outcome, needing}
+use Rattle.lists.specs.{Contract.accountOf, inner.Held.Held, inner.Held.roomFor}
+use Rattle.lists.specs.inner.States.{reply, withLimitsOf, atPlaces}
 use Rattle.lists.specs.Contract.{isNo}
 use Rattle.lists.proofs.Sides.{accountIn, MeetsIn, Moves, SyncOutput}
 use Rattle.lists.specs.Cursor.{cursorAt, growing, paysFor, forward, goesBack, backward, moveTo}

@@ -4,13 +4,13 @@ use Prim.Native.Nat.{ℕ}
 use lib.{ListN.length}
 use Rattle.records.specs.{Refusal, Contradiction, Done, Value, No, Answers.no, Answers.refusalNumber, Counters.capacityOf, Counters.rightlyLent, View.wordsFrom}
 use Rattle.records.proofs.View.{lent-same}
-use Rattle.lists.specs.declared.{Buffer.Buffer, Reply.Reply}
+use Rattle.lists.specs.{declared.Buffer.Buffer, declared.Reply.Reply}
 use Rattle.lists.specs.Account.{Account}
-use Rattle.lists.specs.Results.{refuse_when_else_, Result, refused, accepted, answered, outcome}
-use Rattle.lists.specs.State.{accountOf, account, sound, Held}
-use Rattle.lists.specs.States.{reply}
-use Rattle.lists.specs.Contract.{judged, Meets}
-use Rattle.lists.specs.Contract.{exchanged}
+use Rattle.lists.specs.Account.{refuse_when_else_, Result, refused, accepted, answered, outcome}
+use Rattle.lists.specs.{Contract.accountOf, Contract.account, Contract.sound, inner.Held.Held}
+use Rattle.lists.specs.inner.States.{reply}
+use Rattle.lists.specs.Contract.{judged, LeavesAlone, Meets}
+use Rattle.lists.specs.inner.Held.{exchanged}
 use Rattle.lists.proofs.Sides.{accountIn, MeetsIn}
 use Rattle.lists.proofs.SoundLaws.{sound-lent, held-sound, held-turned, held-lengths}
 
@@ -24,13 +24,13 @@ module _ (b : Buffer) (f s : List ℕ) where
   unfolding account
   account-second h = rw h
 
-in-first : (x : Bool) (r : Buffer) (f s : List ℕ) → x ≡ false → accountIn x r f s ≡ account r f s
+side-first : (x : Bool) (r : Buffer) (f s : List ℕ) → x ≡ false → accountIn x r f s ≡ account r f s
 unfolding accountIn account
-in-first x r f s h = rw h
+side-first x r f s h = rw h
 
-in-second : (x : Bool) (r : Buffer) (f s : List ℕ) → x ≡ true → accountIn x r s f ≡ account r f s
+side-second : (x : Bool) (r : Buffer) (f s : List ℕ) → x ≡ true → accountIn x r s f ≡ account r f s
 unfolding accountIn account
-in-second x r f s h = rw h (by-side (r .swapped))
+side-second x r f s h = rw h (by-side (r .swapped))
   where
     by-side : (y : Bool) → cond (not y) (accountOf r f s) (accountOf r s f) ≡ cond y (accountOf r s f) (accountOf r f s)
     by-side true = refl
@@ -63,37 +63,44 @@ pub outcome-refused : {G : Type 0} (a : Account G) (why : Refusal) → outcome a
 unfolding outcome
 outcome-refused a why = refl
 
+pub untouched : (refuses : Bool) (size : ℕ) (b : Buffer) (f s : List ℕ) → LeavesAlone refuses size b f s b f s
+untouched refuses size b f s = record { stays = λ k. (refl, refl, refl); first-beyond = refl; second-beyond = refl; sounds = refl }
+
 module _ {call : ℕ → Account ℕ → Result ℕ} {b : Buffer} {f s : List ℕ} {r : Reply} where
   pub shell-unsound : sound b f s ≡ false → r ≡ reply b (No Contradiction) → Meets call b f s r f s
   unfolding judged refuse_when_else_ outcome
-  shell-unsound h e = rw e (record { is = rw h; stays = λ k. (refl, refl, refl); first-beyond = refl; second-beyond = refl; stays-sound = λ k. k })
+  shell-unsound h e = rw e (record { is = rw h; alone = untouched _ _ b f s })
 
   module _ {f′ s′ : List ℕ} (h : sound b f s ≡ true) (ef : length f′ ≡ length f) (es : length s′ ≡ length s) where
     pub shell-first : b .swapped ≡ false → MeetsIn call b f s r f′ s′ → Meets call b f s r f′ s′
     shell-first g v = record {
-      is = rw (← in-first (b .swapped) (r .buffer) f′ s′ g, judged-sound call b f s h, account-first b f s g) (v .is);
-      stays = v .stays;
-      first-beyond = v .run-beyond;
-      second-beyond = v .other-beyond;
-      stays-sound = λ k. held-sound (r .buffer) f′ s′ (still-lent b f s f′ s′ h ef es) (held-lengths (r .buffer) f s f′ s′ ef es (v .held));
+      is = rw (← side-first (b .swapped) (r .buffer) f′ s′ g, judged-sound call b f s h, account-first b f s g) (v .is);
+      alone = record {
+        stays = v .stays;
+        first-beyond = v .run-beyond;
+        second-beyond = v .other-beyond;
+        sounds = held-sound (r .buffer) f′ s′ (still-lent b f s f′ s′ h ef es) (held-lengths (r .buffer) f s f′ s′ ef es (v .held)) ∙ sym h;
+      };
     }
 
     pub shell-second : b .swapped ≡ true → MeetsIn call b s f r s′ f′ → Meets call b f s r f′ s′
     shell-second g v =
         let e : length f ≡ length s = lent-same f s (sound-lent b f s h) in
         record {
-          is = rw (← in-second (b .swapped) (r .buffer) f′ s′ g, judged-sound call b f s h, account-second b f s g, e) (v .is);
-          stays = λ k. let p = v .stays k in (p .0, p .2, p .1);
-          first-beyond = v .other-beyond;
-          second-beyond = v .run-beyond;
-          stays-sound = λ k. held-sound (r .buffer) f′ s′ (still-lent b f s f′ s′ h ef es) (held-lengths (r .buffer) f s f′ s′ ef es (held-turned (r .buffer) s f (v .held)));
+          is = rw (← side-second (b .swapped) (r .buffer) f′ s′ g, judged-sound call b f s h, account-second b f s g, e) (v .is);
+          alone = record {
+            stays = λ k. let p = v .stays k in (p .0, p .2, p .1);
+            first-beyond = v .other-beyond;
+            second-beyond = v .run-beyond;
+            sounds = held-sound (r .buffer) f′ s′ (still-lent b f s f′ s′ h ef es) (held-lengths (r .buffer) f s f′ s′ ef es (held-turned (r .buffer) s f (v .held))) ∙ sym h;
+          };
         }
 
   -- a call that writes no word and goes by the account alone
   module _ (h : sound b f s ≡ true) where
     pub shell-accepted : (b′ : Buffer) → call (capacityOf (length f)) (account b f s) ≡ accepted (account b′ f s) → r ≡ reply b′ Done → Held b′ f s → Meets call b f s r f s
     unfolding outcome
-    shell-accepted b′ e er v = rw er (record { is = sym (judged-sound call b f s h ∙ ap (outcome (account b f s)) e); stays = λ k. absurd (false≢true k); first-beyond = refl; second-beyond = refl; stays-sound = λ k. held-sound b′ f s (sound-lent b f s h) v })
+    shell-accepted b′ e er v = rw er (record { is = sym (judged-sound call b f s h ∙ ap (outcome (account b f s)) e); alone = record { stays = λ k. absurd (false≢true k); first-beyond = refl; second-beyond = refl; sounds = held-sound b′ f s (sound-lent b f s h) v ∙ sym h } })
 
 -- ---- below the shell
 module _ {call : ℕ → Account ℕ → Result ℕ} {b : Buffer} {run other : List ℕ} {r : Reply} where

@@ -4,10 +4,10 @@ use Prim.Native.Nat.{ℕ, _+_, _-_, _≤_}
 use native.Mathlib.Omega.{arith}
 use lib.ListN.{length, take, drop}
 use lib.Seq.{slice, drop-drop, take-take, take-add, take-append-le, drop-at, length-take-le}
-use Rattle.records.specs.{Glyphs.zeroPosition, View.glyphs, View.placements}
-use Rattle.lists.specs.Copied.{copied}
-use Rattle.lists.specs.Filled.{filled}
-use Rattle.lists.specs.Moving.{Carried, Zeroed}
+use Rattle.records.specs.{Glyphs.zeroPosition, View.glyphs, View.positionsIn}
+use Rattle.lists.specs.inner.Copied.{copied}
+use Rattle.lists.specs.inner.Filled.{filled}
+use Rattle.lists.specs.inner.Moving.{Carried, Zeroed}
 use Rattle.lists.proofs.Filling.{filled-front}
 use Rattle.lists.proofs.Copying.{take-copied, drop-copied, copied-self, drop-take, range-same}
 
@@ -38,7 +38,7 @@ pub shifted-none : {A : Type 0} (l : List A) (from to n : ℕ) → from ≡ to �
 shifted-none l from to n e = rw e (sym (copied-self l to n))
 
 -- positions, all zero, in the slice that does not hold the run
-pub zeroed : {n : ℕ} {run other other′ : List ℕ} → placements other′ ≡ filled zeroPosition 0 n (placements other) → Zeroed n run other run other′
+pub zeroed : {n : ℕ} {run other other′ : List ℕ} → positionsIn other′ ≡ filled zeroPosition 0 n (positionsIn other) → Zeroed n run other run other′
 zeroed {n} e = record { run-is = refl; other-is = e ∙ filled-front zeroPosition n _ }
 
 module _ {A : Type 0} where

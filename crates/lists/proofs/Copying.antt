@@ -7,9 +7,9 @@ use native.Mathlib.Omega.{arith}
 use lib.ListN.{length, take, drop, set, getD, length-drop, take-append-drop, List·getD-append}
 use lib.Seq.{paste-zero, paste-suc, take-paste, drop-paste, drop-drop, take-take, take-add, take-nil, take-suc, drop-cons, set-at, getD-drop, getD-take, getD-append-add, length-paste-head, length-take-le}
 use Rattle.records.specs.Glyphs.{Glyph}
-use Rattle.records.specs.View.{glyphs, zeroGlyph}
+use Rattle.records.specs.{View.glyphs, inner.Stores.zeroGlyph}
 use Rattle.records.proofs.View.{glyphs-same}
-use Rattle.lists.specs.Copied.{copied}
+use Rattle.lists.specs.inner.Copied.{copied}
 
 module _ {A : Type 0} where
   room-in : (s : List A) (from n : ℕ) → from + n ≤ length s → n ≤ length (drop from s)

@@ -2,10 +2,10 @@
 use mathlib.Core.{Path._≡_, Path.refl, Bool.Bool, Bool.true, Bool.false, Bool.cond, List.List}
 use Prim.Native.Nat.{ℕ}
 use native.Mathlib.Omega.{arith}
-use Rattle.lists.specs.declared.{Buffer.Buffer}
+use Rattle.lists.specs.declared.Buffer.{Buffer}
 use Rattle.lists.specs.Account.{Account, spoiledPhase, len, idx, outLen}
-use Rattle.lists.specs.State.{accountOf, account, sound, Held}
-use Rattle.lists.proofs.Accounts.{gone-of, gone-spoiled, input-spoiled, spoiled-of, limits-of, len-of, idx-of, out-of}
+use Rattle.lists.specs.{Contract.accountOf, Contract.account, Contract.sound, inner.Held.Held}
+use Rattle.lists.proofs.Accounts.{either-slice, gone-of, gone-spoiled, input-spoiled, spoiled-of, limits-of, len-of, idx-of, out-of}
 use Rattle.lists.proofs.SoundLaws.{sound-held, held-turned}
 
 -- a spoiled buffer keeps its length and shows no list
@@ -29,14 +29,9 @@ module _ {b : Buffer} {run other : List ℕ} (v : Held b run other) where
       by true h = rw (spoiled-of b run other, h)
       by false h = rw h (idx-of b run other v h)
 
--- either slice may hold the run
+-- the same of the account, whichever slice holds the run
 in-either : {A : Type 0} (h : Account ℕ → A) {x : A} (b : Buffer) (f s : List ℕ) → h (accountOf b s f) ≡ x → h (accountOf b f s) ≡ x → h (account b f s) ≡ x
-unfolding account
-in-either h {x} b f s p q = by (b .swapped)
-  where
-    by : (t : Bool) → h (cond t (accountOf b s f) (accountOf b f s)) ≡ x
-    by true = p
-    by false = q
+in-either h {x} b f s p q = either-slice b f s (λ a. h a ≡ x) p q
 
 pub account-limits : (b : Buffer) (f s : List ℕ) → account b f s .state .limits ≡ b .limits
 account-limits b f s = in-either (λ (a : Account ℕ). a .state .limits) b f s (limits-of b s f) (limits-of b f s)

@@ -4,16 +4,16 @@ use Prim.Native.Nat.{ℕ, _+_, _-_, _%_, _≤_, _<_, _^_}
 use native.Mathlib.Omega.{arith}
 use borrow.Author.Tests.{eqb-true}
 use lib.{Dec.eqb, Dec.ltb, ListN.length}
-use Rattle.records.specs.{WrongPhase, OutOfRange, Done, Value, No, Limits, Counters.capacityOf, Counters.limited, Counters.entered, Counters.left, Counters.ligSerial, Counters.withSerial, View.glyphs}
+use Rattle.records.specs.{WrongPhase, OutOfRange, Done, Value, No, Limits, Counters.capacityOf, Counters.limited, Counters.afterEnter, Counters.afterLeave, Counters.ligSerial, Counters.withSerial, View.glyphs}
 use Rattle.records.proofs.View.{length-glyphs, glyphs-same}
-use Rattle.lists.specs.declared.{Buffer.Buffer, Verdict.Verdict}
+use Rattle.lists.specs.{declared.Buffer.Buffer, declared.Verdict.Verdict}
 use Rattle.lists.specs.Account.{Account, outputPhase, spoiledPhase, hasOutput, isSpoiled, idx, limiting}
-use Rattle.lists.specs.Results.{refuse_when_else_, Result, accepted, answered}
+use Rattle.lists.specs.Account.{refuse_when_else_, Result, accepted, answered}
 use Rattle.lists.specs.Cursor.{enter, leave, allocateLigId, dropping, cursorAt, skipGlyph, nextGlyphs}
-use Rattle.lists.specs.State.{accountOf, sound, Soundness, Held}
-use Rattle.lists.specs.States.{withLimitsOf, atPlaces}
-use Rattle.lists.specs.Moving.{Carriable, Carried}
-use Rattle.lists.specs.Verdicts.{Leaves, wroteBuffer, liesElsewhere, settled, Decided}
+use Rattle.lists.specs.{Contract.accountOf, Contract.sound, inner.Held.Soundness, inner.Held.Held}
+use Rattle.lists.specs.inner.States.{withLimitsOf, atPlaces}
+use Rattle.lists.specs.inner.Moving.{Carriable, Carried}
+use Rattle.lists.specs.inner.Verdicts.{Leaves, wroteBuffer, liesElsewhere, settled, Decided}
 use Rattle.lists.proofs.Accounts.{output-of, spoiled-of, limits-of, limited-of, idx-of, len-of}
 use Rattle.lists.proofs.SoundLaws.{sound-held, is-sound, soundness}
 use Rattle.lists.proofs.SizeLaws.{fits-within}
@@ -44,18 +44,18 @@ module _ {b : Buffer} {f : List ℕ} where
   lig-spoiled h = spoiled-refuses _ h
 
   module _ (h : spoiledPhase (b .phase) ≡ false) where
-    pub enter-accepts : {l : Limits} {b′ : Buffer} → l ≡ entered (b .len .0) (b .limits) → b′ ≡ withLimitsOf l b → Accepts (λ capacity a. enter a) b f b′ Done
-    unfolding enter entered limited
+    pub enter-accepts : {l : Limits} {b′ : Buffer} → l ≡ afterEnter (b .len .0) (b .limits) → b′ ≡ withLimitsOf l b → Accepts (λ capacity a. enter a) b f b′ Done
+    unfolding enter afterEnter limited
     enter-accepts el eb = rw (eb, el) (accepts Done refl (near-limits b _) (λ run other l. (
       refuse-no WrongPhase _ (isSpoiled (accountOf b run other)) (spoiled-of b run other ∙ h)
-          ∙ ap accepted (ap (λ n. limiting (entered n) (accountOf b run other)) (len-of b run other (l .held) h) ∙ sym (limited-of b run other (entered (b .len .0)))),
+          ∙ ap accepted (ap (λ n. limiting (afterEnter n) (accountOf b run other)) (len-of b run other (l .held) h) ∙ sym (limited-of b run other (afterEnter (b .len .0)))),
       held-limits b run other (l .held) _ (omega arith) (l .held .all-in),
     )))
 
-    pub leave-accepts : {l : Limits} {b′ : Buffer} → l ≡ left (b .limits) → b′ ≡ withLimitsOf l b → Accepts (λ capacity a. leave a) b f b′ Done
-    unfolding leave left limited
+    pub leave-accepts : {l : Limits} {b′ : Buffer} → l ≡ afterLeave (b .limits) → b′ ≡ withLimitsOf l b → Accepts (λ capacity a. leave a) b f b′ Done
+    unfolding leave afterLeave limited
     leave-accepts el eb = rw (eb, el) (accepts Done refl (near-limits b _) (λ run other l. (
-      refuse-no WrongPhase _ (isSpoiled (accountOf b run other)) (spoiled-of b run other ∙ h) ∙ ap accepted (sym (limited-of b run other left)),
+      refuse-no WrongPhase _ (isSpoiled (accountOf b run other)) (spoiled-of b run other ∙ h) ∙ ap accepted (sym (limited-of b run other afterLeave)),
       held-limits b run other (l .held) _ (omega arith) (l .held .all-in),
     )))
 

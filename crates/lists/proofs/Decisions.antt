@@ -4,14 +4,14 @@ use Prim.Native.Nat.{ℕ, _+_}
 use lib.{ListN.length}
 use Rattle.records.specs.{Refusal, Contradiction, OverCapacity, Answer, Done, Value, No, Limits, Answers.said, Counters.capacityOf, Counters.failed, Counters.grown, View.wordsFrom}
 use Rattle.records.proofs.View.{lent-same}
-use Rattle.lists.specs.declared.{Buffer.Buffer, Reply.Reply, Verdict.Verdict, Room.Room, Room.the-variants.Fits, Room.the-variants.GivesUp, Room.the-variants.Over}
+use Rattle.lists.specs.{declared.Buffer.Buffer, declared.Reply.Reply, declared.Verdict.Verdict, declared.Room.Room, declared.Room.the-variants.Fits, declared.Room.the-variants.GivesUp, declared.Room.the-variants.Over}
 use Rattle.lists.specs.Account.{Account, failing}
-use Rattle.lists.specs.Results.{Result, outcome, refused, accepted, answered, needing}
-use Rattle.lists.specs.State.{accountOf, account, sound, Held, roomFor}
-use Rattle.lists.specs.States.{reply, withLimitsOf, atPlaces, apartBuffer}
+use Rattle.lists.specs.Account.{Result, outcome, refused, accepted, answered, needing}
+use Rattle.lists.specs.{Contract.accountOf, Contract.account, Contract.sound, inner.Held.Held, inner.Held.roomFor}
+use Rattle.lists.specs.inner.States.{reply, withLimitsOf, atPlaces, apartBuffer}
 use Rattle.lists.specs.Contract.{isNo, judged, Meets}
 use Rattle.lists.proofs.Sides.{MeetsIn}
-use Rattle.lists.specs.Verdicts.{leaving, Leaves, Sized, bySize, wroteBuffer, failedBuffer, settledBuffer, settled, settledAs, Sided, Decided}
+use Rattle.lists.specs.inner.Verdicts.{leaving, Leaves, Sized, bySize, wroteBuffer, failedBuffer, settledBuffer, settled, settledAs, Sided, Decided}
 use Rattle.lists.proofs.SoundLaws.{sound-lent, sound-held, held-turned}
 use Rattle.lists.proofs.Calls.{account-first, account-second, judged-sound, shell-unsound, shell-first, shell-second, in-refused, in-accepted, in-answered}
 use Rattle.lists.proofs.Inner.{room-over, room-gives-up, held-failed, failing-of}
@@ -221,7 +221,7 @@ module _ (call other-call : ℕ → Account ℕ → Result ℕ) (b : Buffer) (f 
       by-side false e = at f s (lying-first h) (account-first b f s e)
 
   meets-by : {r : Reply} {f′ s′ : List ℕ} → Meets other-call b f s r f′ s′ → Meets call b f s r f′ s′
-  meets-by m = record { is = m .is ∙ sym judged-by; stays = m .stays; first-beyond = m .first-beyond; second-beyond = m .second-beyond; stays-sound = m .stays-sound }
+  meets-by m = record { is = m .is ∙ sym judged-by; alone = m .alone }
 
   pub decided-by : {r : Reply} {acts : Bool} {Ask : Type 0} {Act : (run other run′ other′ : List ℕ) → Type 0} → Decided other-call b f s r acts Ask Act → Decided call b f s r acts Ask Act
   decided-by d = record { still = λ k. meets-by (d .still k); asked = d .asked; acted = λ k lf ls act. meets-by (d .acted k lf ls act) }

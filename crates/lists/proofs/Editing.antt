@@ -7,7 +7,7 @@ use native.Mathlib.Omega.{arith}
 use lib.ListN.{length, getD, set}
 use Rattle.records.specs.Glyphs.{Glyph, Info, change}
 use Rattle.records.specs.Ranges.{edit}
-use Rattle.records.specs.View.{glyphs, zeroGlyph}
+use Rattle.records.specs.{View.glyphs, inner.Stores.zeroGlyph}
 use Rattle.records.proofs.View.{glyphs-same}
 
 module _ {G : Type 0} (h : Info → Info) where

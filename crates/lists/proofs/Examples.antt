@@ -3,7 +3,7 @@ use mathlib.Core.{Path._≡_, Path.refl, List.List, List.[], List._∷_}
 use Prim.Native.Nat.{ℕ}
 use Rattle.records.specs.{Phase, Plain, Output, Spoiled, WrongPhase, OutOfRange, OverCapacity, Counters.freshLimits, Counters.failed, Counters.costs, Counters.grown, Counters.limited, Glyphs.Glyph, Glyphs.blank}
 use Rattle.lists.specs.Account.{Account, limiting, len, idx}
-use Rattle.lists.specs.Results.{refused, accepted, answered}
+use Rattle.lists.specs.Account.{refused, accepted, answered}
 use Rattle.lists.specs.Cursor.{nextGlyphs, skipGlyph, sync, moveTo}
 use Rattle.lists.proofs.Executable.{executable}
 

@@ -6,7 +6,7 @@ use native.Mathlib.Numerals.{add-one}
 use native.Mathlib.Omega.{arith}
 use lib.ListN.{take, drop, length, set, replicate, length-set, length-append, length-replicate, take-append-drop}
 use lib.Seq.{take-at, drop-at, length-take-le, drop-drop}
-use Rattle.lists.specs.Filled.{filled}
+use Rattle.lists.specs.inner.Filled.{filled}
 
 module _ {A : Type 0} (v : A) where
   filled-none : (s : ℕ) (l : List A) → filled v s s l ≡ l

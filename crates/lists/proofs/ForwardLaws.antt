@@ -3,13 +3,13 @@ use mathlib.Core.{Path._≡_, Path.refl, Path.sym, Path.ap, Path._∙_, Bool.Boo
 use Prim.Native.Nat.{ℕ, _+_, _-_}
 use lib.{Dec.ltb, ListN.length}
 use Rattle.records.specs.{OverCapacity, Value, No, Limits, Counters.capacityOf, Counters.isNegative, Counters.costs, Counters.failed, Counters.grown}
-use Rattle.lists.specs.declared.{Buffer.Buffer, Reply.Reply, Room.the-variants.Fits, Room.the-variants.GivesUp, Room.the-variants.Over}
+use Rattle.lists.specs.{declared.Buffer.Buffer, declared.Reply.Reply, declared.Room.the-variants.Fits, declared.Room.the-variants.GivesUp, declared.Room.the-variants.Over}
 use Rattle.lists.specs.Account.{Account, withGone, withLimits, len, idx, outLen, limiting, paying, failing, sized}
-use Rattle.lists.specs.Results.{Result, answered, outcome, needing}
-use Rattle.lists.specs.State.{stateOf, accountOf, roomFor}
-use Rattle.lists.specs.States.{reply, withLimitsOf}
+use Rattle.lists.specs.Account.{Result, answered, outcome, needing}
+use Rattle.lists.specs.{Contract.stateOf, Contract.accountOf, inner.Held.roomFor}
+use Rattle.lists.specs.inner.States.{reply, withLimitsOf}
 use Rattle.lists.specs.Contract.{isNo}
-use Rattle.lists.specs.Contract.{exchanged}
+use Rattle.lists.specs.inner.Held.{exchanged}
 use Rattle.lists.proofs.Sides.{accountIn, MeetsIn, Moves}
 use Rattle.lists.specs.Cursor.{moved, back, growing, paysFor, forward, goesBack, backward}
 use Rattle.lists.proofs.Accounts.{out-of}

@@ -3,7 +3,7 @@ use mathlib.Core.{Path._≡_, Path.refl, Path.ap, Path.sym, Path._∙_, List.Lis
 use Prim.Native.Nat.{ℕ, zero, suc, _≤_, _<_, zero-le}
 use native.Mathlib.Nat.{le-of-suc-le-suc, not-suc-le-zero}
 use lib.{ListN.take, ListN.drop, ListN.length, ListN.getD}
-use Rattle.records.specs.{Glyphs.Glyph, Glyphs.Info, Glyphs.change, Ranges.infos, Ranges.clusters, Ranges.edit, View.zeroGlyph}
+use Rattle.records.specs.{Glyphs.Glyph, Glyphs.Info, Glyphs.change, Ranges.infos, Ranges.clusters, Ranges.edit, inner.Stores.zeroGlyph}
 use Rattle.records.proofs.Renaming.{take-map, drop-map}
 
 module _ {A B : Type 0} (f : A → B) where

@@ -6,11 +6,11 @@ use borrow.Author.Tests.{le-ltb, lt-ltb}
 use lib.{Dec.ltb, ListN.length}
 use Rattle.records.specs.{OverCapacity, Done, Value, Limits, Counters.capacityOf, Counters.isNegative, Counters.costs, Counters.failed, Counters.grown, View.glyphs, View.wordsFrom}
 use Rattle.records.proofs.View.{length-glyphs}
-use Rattle.lists.specs.declared.{Buffer.Buffer, Reply.Reply, Room.Room, Room.the-variants.Fits, Room.the-variants.GivesUp, Room.the-variants.Over}
+use Rattle.lists.specs.{declared.Buffer.Buffer, declared.Reply.Reply, declared.Room.Room, declared.Room.the-variants.Fits, declared.Room.the-variants.GivesUp, declared.Room.the-variants.Over}
 use Rattle.lists.specs.Account.{Account, withLimits, spoiledPhase, limiting, paying, failing, sized}
-use Rattle.lists.specs.Results.{Result, refused, accepted, answered, needing}
-use Rattle.lists.specs.State.{goneOf, stateOf, accountOf, Held, roomFor}
-use Rattle.lists.specs.States.{reply, withLimitsOf}
+use Rattle.lists.specs.Account.{Result, refused, accepted, answered, needing}
+use Rattle.lists.specs.{Contract.goneOf, Contract.stateOf, Contract.accountOf, inner.Held.Held, inner.Held.roomFor}
+use Rattle.lists.specs.inner.States.{reply, withLimitsOf}
 use Rattle.lists.proofs.Sides.{MeetsIn, Moves}
 use Rattle.lists.specs.Cursor.{paysFor}
 use Rattle.lists.proofs.Accounts.{rest-of}

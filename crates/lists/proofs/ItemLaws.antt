@@ -4,13 +4,13 @@ use Prim.Native.Nat.{ℕ, zero, suc, _+_, _-_, _^_, _≤_, _<_}
 use native.Mathlib.Nat.{le-of-suc-le-suc, not-suc-le-zero}
 use native.Mathlib.Omega.{arith}
 use lib.{ListN.length, ListN.getD, ListN.take, ListN.length-map, ListN.length-append, ListN.List·getD-append, ListN.List·getD-eq-default, Seq.slice, Seq.getD-take, Seq.getD-drop, Seq.getD-append-add, Seq.length-take-le}
-use Rattle.records.specs.{Phase, Plain, Output, Positions, Spoiled, Position, Glyphs.Glyph, Glyphs.zeroPosition, View.glyphs, View.placements, View.paired, View.seen, View.stored, View.zeroGlyph}
-use Rattle.records.proofs.{View.stored-seen, View.glyphs-same, View.placements-glyphs, Pairs.paired-stored, Pairs.paired-positions, Renaming.take-map}
-use Rattle.records.specs.declared.Glyph.{Glyph as Words}
-use Rattle.lists.specs.declared.{Buffer.Buffer, Item.Item, Item.the-variants.OfDone, Item.the-variants.OfPassed, Item.the-variants.OfRest, Item.the-variants.Placed, Item.the-variants.Nothing}
+use Rattle.records.specs.{Phase, Plain, Output, Positions, Spoiled, Position, Glyphs.Glyph, Glyphs.zeroPosition, View.glyphs, View.positionsIn, View.paired, View.seen, View.stored, inner.Stores.zeroGlyph}
+use Rattle.records.proofs.{View.stored-seen, View.glyphs-same, View.positions-glyphs, Pairs.paired-stored, Pairs.paired-positions, Renaming.take-map}
+use Rattle.records.specs.declared.GlyphInfo.{GlyphInfo}
+use Rattle.lists.specs.{declared.Buffer.Buffer, declared.Item.Item, declared.Item.the-variants.OfDone, declared.Item.the-variants.OfPassed, declared.Item.the-variants.OfRest, declared.Item.the-variants.OfPosition, declared.Item.the-variants.Nothing}
 use Rattle.lists.specs.Account.{Account, outputPhase, positionsPhase, spoiledPhase, input, positions, outLen}
-use Rattle.lists.specs.State.{shown, goneOf, accountOf, account, sound, Soundness, Held}
-use Rattle.lists.specs.Items.{items}
+use Rattle.lists.specs.{Contract.shown, Contract.goneOf, Contract.accountOf, Contract.account, Contract.sound, inner.Held.Soundness, inner.Held.Held}
+use Rattle.lists.specs.Contract.{items}
 use Rattle.lists.proofs.Accounts.{positions-of, length-shown, out-of, rest-of, gone-in, passed-of, gone-spoiled, places-in, gone-within, input-length}
 use Rattle.lists.proofs.SoundLaws.{held-first, sound-held, is-sound, is-unsound, soundness}
 use Rattle.lists.proofs.Calls.{account-first, account-second}
@@ -25,11 +25,11 @@ module _ {A B : Type 0} (f : A → B) where
   map-at (x ∷ l) (suc k) d z h = map-at l k d z (le-of-suc-le-suc h)
 
   module _ (l : List A) (m : List B) (k : ℕ) (z : B) where
-    in-first : (d : A) → k < length l → getD (map f l ++ m) k z ≡ f (getD l k d)
-    in-first d h = let e : length (map f l) ≡ length l = length-map l f in List·getD-append (map f l) m z k (omega arith) ∙ map-at l k d z h
+    map-within : (d : A) → k < length l → getD (map f l ++ m) k z ≡ f (getD l k d)
+    map-within d h = let e : length (map f l) ≡ length l = length-map l f in List·getD-append (map f l) m z k (omega arith) ∙ map-at l k d z h
 
-    in-second : (n : ℕ) → length l ≡ n → getD (map f l ++ m) (n + k) z ≡ getD m k z
-    in-second n e = ap (λ (i : ℕ). getD (map f l ++ m) (i + k) z) (sym (length-map l f ∙ e)) ∙ getD-append-add (map f l) m k z
+    map-past : (n : ℕ) → length l ≡ n → getD (map f l ++ m) (n + k) z ≡ getD m k z
+    map-past n e = ap (λ (i : ℕ). getD (map f l ++ m) (i + k) z) (sym (length-map l f ∙ e)) ∙ getD-append-add (map f l) m k z
 
 empty : {A : Type 0} (l : List A) → length l ≡ 0 → l ≡ []
 empty [] e = refl
@@ -56,26 +56,26 @@ shown-stored : (p : Phase) (run other : List ℕ) → spoiledPhase p ≡ false �
 unfolding shown
 shown-stored Plain run other h = refl
 shown-stored Output run other h = refl
-shown-stored Positions run other h = paired-stored (glyphs run) (placements other)
+shown-stored Positions run other h = paired-stored (glyphs run) (positionsIn other)
 shown-stored Spoiled run other h = absurd (false≢true (sym h))
 
 stored-at : (p : Phase) (run other : List ℕ) (i : ℕ) → spoiledPhase p ≡ false → i < length (glyphs run) → stored (getD (shown p run other) i zeroGlyph) ≡ stored (getD (glyphs run) i zeroGlyph)
 stored-at p run other i h k =
     let e : length (shown p run other) ≡ length (glyphs run) = length-shown p run other h in
     sym (map-at stored (shown p run other) i zeroGlyph (stored zeroGlyph) (omega arith))
-    ∙ (ap (λ (l : List Words). getD l i (stored zeroGlyph)) (shown-stored p run other h) ∙ map-at stored (glyphs run) i zeroGlyph (stored zeroGlyph) k)
+    ∙ (ap (λ (l : List GlyphInfo). getD l i (stored zeroGlyph)) (shown-stored p run other h) ∙ map-at stored (glyphs run) i zeroGlyph (stored zeroGlyph) k)
 
 -- ---- positions by themselves
 module _ (p : Phase) {t : Bool} (ps : List Position) {n k : ℕ} (l : n ≤ length ps) (e : t ≡ positionsPhase p) (h : t ≡ true) where
-  pub place-at : {q : Position} → k < n → q ≡ getD ps k zeroPosition → Placed q ≡ getD (map Placed (cond (positionsPhase p) (take n ps) [])) k Nothing
+  pub place-at : {q : Position} → k < n → q ≡ getD ps k zeroPosition → OfPosition q ≡ getD (map OfPosition (cond (positionsPhase p) (take n ps) [])) k Nothing
   place-at i eq =
       let m : length (take n ps) ≡ n = length-take-le n ps l in
-      rw (sym e ∙ h) (sym (map-at Placed (take n ps) k zeroPosition Nothing (omega arith) ∙ ap Placed (getD-take n ps k zeroPosition i ∙ sym eq)))
+      rw (sym e ∙ h) (sym (map-at OfPosition (take n ps) k zeroPosition Nothing (omega arith) ∙ ap OfPosition (getD-take n ps k zeroPosition i ∙ sym eq)))
 
-  pub place-past : n ≤ k → Nothing ≡ getD (map Placed (cond (positionsPhase p) (take n ps) [])) k Nothing
+  pub place-past : n ≤ k → Nothing ≡ getD (map OfPosition (cond (positionsPhase p) (take n ps) [])) k Nothing
   place-past i =
-      let m : length (map Placed (take n ps)) ≡ n = length-map (take n ps) Placed ∙ length-take-le n ps l in
-      rw (sym e ∙ h) (sym (List·getD-eq-default (map Placed (take n ps)) Nothing (omega arith)))
+      let m : length (map OfPosition (take n ps)) ≡ n = length-map (take n ps) OfPosition ∙ length-take-le n ps l in
+      rw (sym e ∙ h) (sym (List·getD-eq-default (map OfPosition (take n ps)) Nothing (omega arith)))
 
 -- ---- where each thing lies
 module _ (b : Buffer) (run other : List ℕ) (v : Held b run other) where
@@ -87,17 +87,17 @@ module _ (b : Buffer) (run other : List ℕ) (v : Held b run other) where
       by-test false e = e
 
   -- the positions are those of the other slice
-  pub positions-are : positions (accountOf b run other) ≡ cond (positionsPhase (b .phase)) (take (b .len .0) (placements other)) []
+  pub positions-are : positions (accountOf b run other) ≡ cond (positionsPhase (b .phase)) (take (b .len .0) (positionsIn other)) []
   unfolding positions shown
   positions-are = rw (positions-of b run other) (by-test (positionsPhase (b .phase)) refl)
     where
-      by-test : (t : Bool) → positionsPhase (b .phase) ≡ t → cond t (map (λ g. g .info .position) (input (accountOf b run other))) [] ≡ cond t (take (b .len .0) (placements other)) []
+      by-test : (t : Bool) → positionsPhase (b .phase) ≡ t → cond t (map (λ g. g .info .position) (input (accountOf b run other))) [] ≡ cond t (take (b .len .0) (positionsIn other)) []
       by-test true h =
           let p = placed-clean (b .phase) h in
-          let n : length (glyphs run) ≡ length (placements other) = glyphs-same run other (v .same) ∙ sym (placements-glyphs other) in
+          let n : length (glyphs run) ≡ length (positionsIn other) = glyphs-same run other (v .same) ∙ sym (positions-glyphs other) in
           ap (map (λ (g : Glyph ℕ). g .info .position)) (input-of b run other v (p .0) (p .1) ∙ ap (λ (q : Phase). take (b .len .0) (shown q run other)) (p .2))
-          ∙ (sym (take-map (λ (g : Glyph ℕ). g .info .position) (b .len .0) (paired (glyphs run) (placements other)))
-          ∙ ap (take (b .len .0)) (paired-positions (glyphs run) (placements other) n))
+          ∙ (sym (take-map (λ (g : Glyph ℕ). g .info .position) (b .len .0) (paired (glyphs run) (positionsIn other)))
+          ∙ ap (take (b .len .0)) (paired-positions (glyphs run) (positionsIn other) n))
       by-test false h = refl
 
   abbrev shows : Account ℕ
@@ -105,17 +105,17 @@ module _ (b : Buffer) (run other : List ℕ) (v : Held b run other) where
 
   -- what is shown after the output
   abbrev after : List Item
-  after = map (λ g. OfPassed (stored g)) (shows .passed) ++ (map (λ g. OfRest (stored g)) (shows .rest) ++ map Placed (positions shows))
+  after = map (λ g. OfPassed (stored g)) (shows .passed) ++ (map (λ g. OfRest (stored g)) (shows .rest) ++ map OfPosition (positions shows))
 
   module _ (k : ℕ) where
     done-at : k < b .«out_len» .0 → getD (items shows) k Nothing ≡ OfDone (stored (getD (shows .done) k zeroGlyph))
     unfolding items outLen
-    done-at h = let e : length (shows .done) ≡ b .«out_len» .0 = out-of b run other v in in-first (λ g. OfDone (stored g)) (shows .done) _ k Nothing zeroGlyph (omega arith)
+    done-at h = let e : length (shows .done) ≡ b .«out_len» .0 = out-of b run other v in map-within (λ g. OfDone (stored g)) (shows .done) _ k Nothing zeroGlyph (omega arith)
 
     pub apart-room : k < b .«out_len» .0 → k < length (glyphs other)
     apart-room h = let e : length (glyphs run) ≡ length (glyphs other) = glyphs-same run other (v .same) in omega arith
 
-    module _ {g : Words} (h : k < b .«out_len» .0) where
+    module _ {g : GlyphInfo} (h : k < b .«out_len» .0) where
       done-of : seen g ≡ getD (cond (b .«have_separate_output») (glyphs other) (glyphs run)) k zeroGlyph → OfDone g ≡ getD (items shows) k Nothing
       unfolding accountOf
       done-of e = sym (done-at h ∙ ap OfDone (ap stored (getD-take (b .«out_len» .0) _ k zeroGlyph h ∙ sym e) ∙ stored-seen g))
@@ -128,13 +128,13 @@ module _ (b : Buffer) (run other : List ℕ) (v : Held b run other) where
 
     past-done : getD (items shows) (b .«out_len» .0 + k) Nothing ≡ getD after k Nothing
     unfolding items outLen
-    past-done = in-second (λ g. OfDone (stored g)) (shows .done) _ k Nothing (b .«out_len» .0) (out-of b run other v)
+    past-done = map-past (λ g. OfDone (stored g)) (shows .done) _ k Nothing (b .«out_len» .0) (out-of b run other v)
 
     pub item-after : {r : Item} → b .«out_len» .0 ≤ k → r ≡ getD (items shows) (b .«out_len» .0 + (k - b .«out_len» .0)) Nothing → r ≡ getD (items shows) k Nothing
     item-after h e = e ∙ ap (λ (i : ℕ). getD (items shows) i Nothing) (omega arith)
 
     module _ {from : ℕ} (ef : from ≡ goneOf b) where
-      module _ {g : Words} (e : seen g ≡ getD (glyphs run) (from + k) zeroGlyph) where
+      module _ {g : GlyphInfo} (e : seen g ≡ getD (glyphs run) (from + k) zeroGlyph) where
         pub passed-at : k < b .len .0 - from → from + k < b .idx .0 → OfPassed g ≡ getD (items shows) (b .«out_len» .0 + k) Nothing
         unfolding accountOf
         passed-at n h =
@@ -143,7 +143,7 @@ module _ (b : Buffer) (run other : List ℕ) (v : Held b run other) where
             let w : stored (getD (shows .passed) k zeroGlyph) ≡ g =
             ap stored (slice-at (goneOf b) (b .idx .0) (shown (b .phase) run other) k zeroGlyph (omega arith))
             ∙ (stored-at (b .phase) run other (goneOf b + k) c (omega arith) ∙ (rw (← ef) (ap stored (sym e)) ∙ stored-seen g)) in
-            sym (past-done ∙ (in-first (λ x. OfPassed (stored x)) (shows .passed) _ k Nothing zeroGlyph (omega arith) ∙ ap OfPassed w))
+            sym (past-done ∙ (map-within (λ x. OfPassed (stored x)) (shows .passed) _ k Nothing zeroGlyph (omega arith) ∙ ap OfPassed w))
 
         pub rest-at : k < b .len .0 - from → b .idx .0 ≤ from + k → OfRest g ≡ getD (items shows) (b .«out_len» .0 + k) Nothing
         unfolding accountOf
@@ -159,22 +159,22 @@ module _ (b : Buffer) (run other : List ℕ) (v : Held b run other) where
             ∙ (ap (λ (x : ℕ). stored (getD (glyphs run) x zeroGlyph)) (omega arith) ∙ (ap stored (sym e) ∙ stored-seen g))) in
             sym (past-done
             ∙ (ap (λ (x : ℕ). getD after x Nothing) (omega arith)
-            ∙ (in-second (λ x. OfPassed (stored x)) (shows .passed) _ j Nothing (b .idx .0 - goneOf b) l
-            ∙ (in-first (λ x. OfRest (stored x)) (shows .rest) _ j Nothing zeroGlyph (omega arith) ∙ ap OfRest w))))
+            ∙ (map-past (λ x. OfPassed (stored x)) (shows .passed) _ j Nothing (b .idx .0 - goneOf b) l
+            ∙ (map-within (λ x. OfRest (stored x)) (shows .rest) _ j Nothing zeroGlyph (omega arith) ∙ ap OfRest w))))
 
       -- past the glyphs
-      pub placed-at : {r : Item} → b .len .0 - from ≤ k → r ≡ getD (map Placed (cond (positionsPhase (b .phase)) (take (b .len .0) (placements other)) [])) (k - (b .len .0 - from)) Nothing → r ≡ getD (items shows) (b .«out_len» .0 + k) Nothing
+      pub placed-at : {r : Item} → b .len .0 - from ≤ k → r ≡ getD (map OfPosition (cond (positionsPhase (b .phase)) (take (b .len .0) (positionsIn other)) [])) (k - (b .len .0 - from)) Nothing → r ≡ getD (items shows) (b .«out_len» .0 + k) Nothing
       placed-at h e =
           let l : length (shows .passed) + length (shows .rest) ≡ b .len .0 - goneOf b = input-length b run other v in
           let j : ℕ = k - (b .len .0 - from) in
           e ∙ sym (past-done
           ∙ (ap (λ (x : ℕ). getD after x Nothing) (omega arith)
-          ∙ (in-second (λ x. OfPassed (stored x)) (shows .passed) _ (length (shows .rest) + j) Nothing (length (shows .passed)) refl
-          ∙ (in-second (λ x. OfRest (stored x)) (shows .rest) _ j Nothing (length (shows .rest)) refl
-          ∙ ap (λ (ps : List Position). getD (map Placed ps) j Nothing) positions-are))))
+          ∙ (map-past (λ x. OfPassed (stored x)) (shows .passed) _ (length (shows .rest) + j) Nothing (length (shows .passed)) refl
+          ∙ (map-past (λ x. OfRest (stored x)) (shows .rest) _ j Nothing (length (shows .rest)) refl
+          ∙ ap (λ (ps : List Position). getD (map OfPosition ps) j Nothing) positions-are))))
 
   -- ---- how many
-  items-length : length (items shows) ≡ b .«out_len» .0 + (b .len .0 - goneOf b) + length (cond (positionsPhase (b .phase)) (take (b .len .0) (placements other)) [])
+  items-length : length (items shows) ≡ b .«out_len» .0 + (b .len .0 - goneOf b) + length (cond (positionsPhase (b .phase)) (take (b .len .0) (positionsIn other)) [])
   unfolding items outLen
   items-length =
       let n : length (shows .done) ≡ b .«out_len» .0 = out-of b run other v in
@@ -186,7 +186,7 @@ module _ (b : Buffer) (run other : List ℕ) (v : Held b run other) where
       let p = placed-clean (b .phase) h in
       let none : b .«out_len» .0 ≡ 0 = v .none (p .0) in
       let gone : goneOf b ≡ 0 = gone-without b (p .0) (p .1) in
-      let n : length (take (b .len .0) (placements other)) ≡ b .len .0 = length-take-le (b .len .0) (placements other) (places-in b run other v) in
+      let n : length (take (b .len .0) (positionsIn other)) ≡ b .len .0 = length-take-le (b .len .0) (positionsIn other) (places-in b run other v) in
       items-length ∙ rw h (omega arith)
 
   count-plain : positionsPhase (b .phase) ≡ false → length (items shows) ≡ b .«out_len» .0 + (b .len .0 - goneOf b)
@@ -207,12 +207,16 @@ module _ (b : Buffer) (f s : List ℕ) (h : sound b f s ≡ true) where
   pub items-spoiled : spoiledPhase (b .phase) ≡ true → items (account b f s) ≡ []
   items-spoiled p = let q = spoiled-clean (b .phase) p in empty (items (account b f s)) (omega (arith, counted-plain (q .0), gone-spoiled b p, v .none (q .1)))
 
-  pub items-most : length (items (account b f s)) ≤ 2097152
-  items-most = by-test (positionsPhase (b .phase)) refl
+  -- at most twice as many as glyphs have room
+  pub items-few : length (items (account b f s)) ≤ length (glyphs f) + length (glyphs f)
+  items-few = by-test (positionsPhase (b .phase)) refl
     where
-      by-test : (t : Bool) → positionsPhase (b .phase) ≡ t → length (items (account b f s)) ≤ 2097152
-      by-test true p = omega (arith, counted-placed p, v .len-in, v .all-in, v .most)
-      by-test false p = omega (arith, counted-plain p, v .len-in, v .out-in, v .all-in, v .most)
+      by-test : (t : Bool) → positionsPhase (b .phase) ≡ t → length (items (account b f s)) ≤ length (glyphs f) + length (glyphs f)
+      by-test true p = omega (arith, counted-placed p, v .len-in, v .all-in)
+      by-test false p = omega (arith, counted-plain p, v .len-in, v .out-in, v .all-in)
+
+  pub items-most : length (items (account b f s)) ≤ 2097152
+  items-most = omega (arith, items-few, v .most)
 
 -- ---- as the code tests: of a sound buffer, and of one that is not
 module _ {b : Buffer} {f s : List ℕ} {t : Bool} (w : Soundness b f s t) where

@@ -3,8 +3,8 @@ use mathlib.Core.{Path._≡_, Path.ap, Path.ap₂, Path.sym, Path._∙_, List.Li
 use Prim.Native.Nat.{ℕ, suc, _-_, _%_, _≤_, _<_}
 use native.Mathlib.Omega.{arith}
 use lib.{Bits.bitOr, Bits.or-lt, ListN.length, ListN.getD, Seq.slice, Seq.slice-empty, Seq.slice-cons}
-use Rattle.records.specs.{Glyphs.Glyph, Glyphs.Info, Ranges.infos, View.zeroGlyph}
-use Rattle.lists.specs.Masks.{joinedLow}
+use Rattle.records.specs.{Glyphs.Glyph, Glyphs.Info, Ranges.infos, inner.Stores.zeroGlyph}
+use Rattle.lists.specs.inner.Masks.{joinedLow}
 use Rattle.lists.proofs.Infos.{length-words, word-of}
 
 joined-lt : (ms : List ℕ) → joinedLow ms < 8

@@ -4,6 +4,8 @@ pub mod BackLaws
 pub mod Calls
 pub mod Carrying
 pub mod Chains
+pub mod Changed
+pub mod Conserving
 pub mod Copying
 pub mod Counted
 pub mod CursorCalls
@@ -22,13 +24,17 @@ pub mod Joining
 pub mod MoveCalls
 pub mod Moving
 pub mod Outputs
+pub mod PairTurns
 pub mod PhaseCalls
 pub mod Positioning
+pub mod Refusing
 pub mod Renaming
 pub mod Runs
+pub mod Showing
 pub mod Sides
 pub mod Simple
 pub mod SizeLaws
 pub mod SoundLaws
 pub mod SyncLaws
+pub mod TurnParts
 pub mod Turns

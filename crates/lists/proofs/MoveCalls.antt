@@ -3,13 +3,13 @@ use mathlib.Core.{Path._≡_, Path.refl, Bool.true, Bool.false, List.List}
 use Prim.Native.Nat.{ℕ, _+_, _-_, _≤_, _<_, _^_}
 use native.Mathlib.Omega.{arith}
 use Rattle.records.specs.{WrongPhase, OutOfRange, Contradiction, Value, No}
-use Rattle.lists.specs.declared.{Buffer.Buffer, Verdict.Verdict}
+use Rattle.lists.specs.{declared.Buffer.Buffer, declared.Verdict.Verdict}
 use Rattle.lists.specs.Account.{outputPhase, spoiledPhase}
-use Rattle.lists.specs.State.{sound}
-use Rattle.lists.specs.States.{atPlaces}
-use Rattle.lists.specs.Moving.{Opened, Backs, MovesForward, MovesBack, MovesTo}
+use Rattle.lists.specs.Contract.{sound}
+use Rattle.lists.specs.inner.States.{atPlaces}
+use Rattle.lists.specs.inner.Moving.{Opened, Backs, MovesForward, MovesBack, MovesTo}
 use Rattle.lists.proofs.Sides.{SyncOutput}
-use Rattle.lists.specs.Verdicts.{Leaves}
+use Rattle.lists.specs.inner.Verdicts.{Leaves}
 use Rattle.lists.proofs.SoundLaws.{sound-held, soundness}
 use Rattle.lists.proofs.ForwardLaws as forths
 use Rattle.lists.proofs.BackLaws as backs

@@ -6,13 +6,13 @@ use lib.ListN.{length, take, drop}
 use lib.Seq.{slice, take-take, drop-at, length-take-le}
 use Rattle.records.specs.{Glyphs.Glyph, View.glyphs, View.wordsFrom}
 use Rattle.records.proofs.View.{glyphs-same, whole-same}
-use Rattle.lists.specs.declared.{Buffer.Buffer}
+use Rattle.lists.specs.declared.Buffer.{Buffer}
 use Rattle.lists.specs.Account.{outputPhase, withGone}
 use Rattle.lists.proofs.Sides.{Moves}
-use Rattle.lists.specs.Copied.{copied}
+use Rattle.lists.specs.inner.Copied.{copied}
 use Rattle.lists.specs.Cursor.{moved, growing, back}
-use Rattle.lists.specs.State.{accountOf, Held}
-use Rattle.lists.specs.States.{atPlaces}
+use Rattle.lists.specs.{Contract.accountOf, inner.Held.Held}
+use Rattle.lists.specs.inner.States.{atPlaces}
 use Rattle.lists.proofs.SoundLaws.{out-fits}
 use Rattle.lists.proofs.Outputs.{output-cong, output-places, output-account, beyond}
 use Rattle.lists.proofs.Copying.{take-copied, drop-copied, drop-take, take-range}

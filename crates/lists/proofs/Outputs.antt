@@ -4,10 +4,10 @@ use Prim.Native.Nat.{ℕ}
 use lib.{ListN.length, ListN.take, ListN.drop, Seq.slice, Seq.slice-empty}
 use Rattle.records.specs.{Phase, Plain, Output, Positions, Spoiled, Glyphs.Glyph, View.glyphs, View.wordsFrom, View.Whole}
 use Rattle.records.proofs.View.{beyond-glyphs}
-use Rattle.lists.specs.declared.{Buffer.Buffer}
+use Rattle.lists.specs.declared.Buffer.{Buffer}
 use Rattle.lists.specs.Account.{Account, outputPhase, spoiledPhase, readLevel}
-use Rattle.lists.specs.State.{shown, goneOf, stateOf, accountOf}
-use Rattle.lists.specs.States.{atPlaces}
+use Rattle.lists.specs.Contract.{shown, goneOf, stateOf, accountOf}
+use Rattle.lists.specs.inner.States.{atPlaces}
 
 abbrev pub output : Buffer → ℕ → (done rest : List (Glyph ℕ)) → Account ℕ
 output b i D R = record { done = D; passed = []; rest = R; state = record { phase = b .phase; gone = i; limits = b .limits; level = readLevel (b .level); wants = b .wants } }

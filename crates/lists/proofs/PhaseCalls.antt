@@ -4,18 +4,18 @@ use Prim.Native.Nat.{ℕ, _+_, _-_, _≤_, _<_}
 use native.Mathlib.Omega.{arith}
 use borrow.Author.Tests.{le-ltb, lt-ltb}
 use lib.{Dec.ltb, ListN.length}
-use Rattle.records.specs.{Refusal, Contradiction, WrongPhase, BadOperand, Done, Value, No, Answer, Counters.capacityOf, View.placements}
-use Rattle.records.proofs.View.{placements-glyphs}
-use Rattle.lists.specs.declared.{Buffer.Buffer, Reply.Reply, Verdict.Verdict, Room.Room, Room.the-variants.Fits, Room.the-variants.GivesUp, Room.the-variants.Over}
+use Rattle.records.specs.{Refusal, Contradiction, WrongPhase, BadOperand, Done, Value, No, Answer, Counters.capacityOf, View.positionsIn}
+use Rattle.records.proofs.View.{positions-glyphs}
+use Rattle.lists.specs.{declared.Buffer.Buffer, declared.Reply.Reply, declared.Verdict.Verdict, declared.Room.Room, declared.Room.the-variants.Fits, declared.Room.the-variants.GivesUp, declared.Room.the-variants.Over}
 use Rattle.lists.specs.Account.{Account, outputPhase, spoiledPhase, hasOutput, isSpoiled}
-use Rattle.lists.specs.Results.{refuse_when_else_, Result, accepted}
+use Rattle.lists.specs.Account.{refuse_when_else_, Result, accepted}
 use Rattle.lists.specs.Cursor.{opened, positioned, fresh, clearOutput, clearPositions, sync}
-use Rattle.lists.specs.State.{accountOf, sound, roomFor}
-use Rattle.lists.specs.States.{reply, withLimitsOf, atPlaces, freshBuffer, openedBuffer, positionedBuffer, spoiledBuffer, swappedBuffer}
+use Rattle.lists.specs.{Contract.accountOf, Contract.sound, inner.Held.roomFor}
+use Rattle.lists.specs.inner.States.{reply, withLimitsOf, atPlaces, freshBuffer, openedBuffer, positionedBuffer, spoiledBuffer, swappedBuffer}
 use Rattle.lists.specs.Contract.{Meets}
 use Rattle.lists.proofs.Sides.{MeetsIn}
-use Rattle.lists.specs.Moving.{Carriable, Carried, Zeroed}
-use Rattle.lists.specs.Verdicts.{leaving, Leaves, Sized, bySize, wroteBuffer, failedBuffer, liesElsewhere, freshVerdict, clearVerdict, Freshens, Clears, settledBuffer, settled, settledAs, synced, Sided, Decided}
+use Rattle.lists.specs.inner.Moving.{Carriable, Carried, Zeroed}
+use Rattle.lists.specs.inner.Verdicts.{leaving, Leaves, Sized, bySize, wroteBuffer, failedBuffer, liesElsewhere, freshVerdict, clearVerdict, Freshens, Clears, settledBuffer, settled, settledAs, synced, Sided, Decided}
 use Rattle.lists.proofs.Accounts.{output-of, spoiled-of, places-in}
 use Rattle.lists.proofs.SoundLaws.{sound-held, soundness}
 use Rattle.lists.proofs.Calls.{shell-unsound, shell-accepted, in-accepted}
@@ -117,17 +117,17 @@ clear-output-meets {b} {x} {f} {s} {v} ev ex = rw ex (by (v .acts) refl)
     by false e = decided .still e
     by true e = decided .acted e refl refl (record { first = λ k. (refl, refl); second = λ k. (refl, refl) })
 
-pub clear-positions-decided : {b x : Buffer} {f s : List ℕ} {v : Verdict} → Clears b f s v → x ≡ positionedBuffer b → Decided (λ capacity a. clearPositions a) b f s (settledAs b x v) (v .acts) ((b .len .0 ≤ length (placements f)) × (b .len .0 ≤ length (placements s))) (Zeroed (b .len .0))
+pub clear-positions-decided : {b x : Buffer} {f s : List ℕ} {v : Verdict} → Clears b f s v → x ≡ positionedBuffer b → Decided (λ capacity a. clearPositions a) b f s (settledAs b x v) (v .acts) ((b .len .0 ≤ length (positionsIn f)) × (b .len .0 ≤ length (positionsIn s))) (Zeroed (b .len .0))
 unfolding clearPositions
-clear-positions-decided {b} {x} {f} {s} ev ex = rw ex (cleared positioned (positionedBuffer b) (λ capacity a. refl) ev (λ h. let w = sound-held b f s h in (omega (arith, placements-glyphs f), places-in b f s w)) (λ hx ho hp run other run′ other′ l lr lo act e.
+clear-positions-decided {b} {x} {f} {s} ev ex = rw ex (cleared positioned (positionedBuffer b) (λ capacity a. refl) ev (λ h. let w = sound-held b f s h in (omega (arith, positions-glyphs f), places-in b f s w)) (λ hx ho hp run other run′ other′ l lr lo act e.
     let v : Placeable b run other = record { held = l .held; plain = ho; clean = hp } in
     rw (act .run-is) (move-accepted (place-moves b run other v other′ (act .other-is) lo refl) refl e refl)))
 
 -- the act comes before the reply is made
-pub clear-first : {b : Buffer} {f s : List ℕ} {v : Verdict} → Clears b f s v → v .acts ≡ true → b .len .0 ≤ length (placements f)
+pub clear-first : {b : Buffer} {f s : List ℕ} {v : Verdict} → Clears b f s v → v .acts ≡ true → b .len .0 ≤ length (positionsIn f)
 clear-first w t = clear-positions-decided w refl .asked t .0
 
-pub clear-second : {b : Buffer} {f s : List ℕ} {v : Verdict} → Clears b f s v → v .acts ≡ true → b .len .0 ≤ length (placements s)
+pub clear-second : {b : Buffer} {f s : List ℕ} {v : Verdict} → Clears b f s v → v .acts ≡ true → b .len .0 ≤ length (positionsIn s)
 clear-second w t = clear-positions-decided w refl .asked t .1
 
 module _ {b x : Buffer} {f s f″ s″ : List ℕ} {v : Verdict} {r : Reply} (er : r ≡ settledAs b x v) (ex : x ≡ positionedBuffer b) (w : Clears b f s v) where

@@ -4,15 +4,15 @@ use Prim.Native.Nat.{ℕ, _+_, _-_, _≤_}
 use native.Mathlib.Omega.{arith}
 use lib.ListN.{length, take, drop, replicate, length-replicate}
 use lib.Seq.{slice, drop-drop, take-take, drop-append-add}
-use Rattle.records.specs.{Phase, Plain, Output, Positions, Spoiled, Position, Glyphs.Glyph, Glyphs.change, Glyphs.withPosition, Glyphs.zeroPosition, View.glyphs, View.placements, View.paired}
-use Rattle.records.proofs.View.{whole-same, beyond-placements, paired-zero, paired-plain}
+use Rattle.records.specs.{Phase, Plain, Output, Positions, Spoiled, Position, Glyphs.Glyph, Glyphs.change, Glyphs.withPosition, Glyphs.zeroPosition, View.glyphs, View.positionsIn, View.paired}
+use Rattle.records.proofs.View.{whole-same, beyond-positions, paired-zero, paired-plain}
 use Rattle.records.proofs.Renaming.{take-map, drop-map}
-use Rattle.lists.specs.declared.{Buffer.Buffer}
+use Rattle.lists.specs.declared.Buffer.{Buffer}
 use Rattle.lists.specs.Account.{outputPhase, spoiledPhase, inPhase, readLevel}
 use Rattle.lists.proofs.Sides.{Moves}
 use Rattle.lists.specs.Cursor.{positioned, withoutPositions}
-use Rattle.lists.specs.State.{shown, goneOf, stateOf, accountOf, Held}
-use Rattle.lists.specs.States.{positionedBuffer}
+use Rattle.lists.specs.{Contract.shown, Contract.goneOf, Contract.stateOf, Contract.accountOf, inner.Held.Held}
+use Rattle.lists.specs.inner.States.{positionedBuffer}
 use Rattle.lists.proofs.Outputs.{goneIn, gone-plain}
 
 -- a buffer without output, and not spoiled
@@ -40,7 +40,7 @@ shown-plain : (p : Phase) (run other : List ℕ) → outputPhase p ≡ false →
 unfolding shown plain
 shown-plain Plain run other h k = refl
 shown-plain Output run other h k = absurd (false≢true (sym h))
-shown-plain Positions run other h k = paired-plain (glyphs run) (placements other)
+shown-plain Positions run other h k = paired-plain (glyphs run) (positionsIn other)
 shown-plain Spoiled run other h k = absurd (false≢true (sym k))
 
 drop-zero : (n m : ℕ) (ps : List Position) → n ≤ m → drop m (replicate n zeroPosition ++ drop n ps) ≡ drop m ps
@@ -66,12 +66,12 @@ module _ (b : Buffer) (run other : List ℕ) (v : Placeable b run other) where
     none = λ p. refl;
   }
 
-  module _ (other′ : List ℕ) (eo : placements other′ ≡ replicate (b .len .0) zeroPosition ++ drop (b .len .0) (placements other)) where
+  module _ (other′ : List ℕ) (eo : positionsIn other′ ≡ replicate (b .len .0) zeroPosition ++ drop (b .len .0) (positionsIn other)) where
     place-range : (f t : ℕ) → t ≤ b .len .0 → slice f t (shown Positions run other′) ≡ withoutPositions (slice f t (shown (b .phase) run other))
     unfolding shown
     place-range f t h =
         ap (λ (ps : List Position). slice f t (paired (glyphs run) ps)) eo
-        ∙ slice-zero f t (b .len .0) (glyphs run) (drop (b .len .0) (placements other)) h
+        ∙ slice-zero f t (b .len .0) (glyphs run) (drop (b .len .0) (positionsIn other)) h
         ∙ ap (slice f t) (sym (shown-plain (b .phase) run other (v .plain) (v .clean)))
         ∙ slice-plain f t (shown (b .phase) run other)
 
@@ -99,13 +99,13 @@ module _ (b : Buffer) (run other : List ℕ) (v : Placeable b run other) where
     unfolding positionedBuffer
     place-moves {r} lo e =
         let m : ℕ = b .limits .allocated in
-        let behind-other : drop m (placements other′) ≡ drop m (placements other) =
-        ap (drop m) eo ∙ drop-zero (b .len .0) m (placements other) (v .held .len-in) in
+        let behind-other : drop m (positionsIn other′) ≡ drop m (positionsIn other) =
+        ap (drop m) eo ∙ drop-zero (b .len .0) m (positionsIn other) (v .held .len-in) in
         record {
           is = rw e place-is;
           limits = ap (λ (x : Buffer). x .limits) e;
           side = ap (λ (x : Buffer). x .swapped) e;
           run-beyond = refl;
-          other-beyond = sym (beyond-placements m other other′ (whole-same run other (v .held .same) (v .held .whole)) (sym lo) (sym behind-other));
+          other-beyond = sym (beyond-positions m other other′ (whole-same run other (v .held .same) (v .held .whole)) (sym lo) (sym behind-other));
           held = rw e place-held;
         }

@@ -4,12 +4,17 @@ use Prim.Native.Nat.{ℕ}
 use lib.Dec.{ltb}
 use Rattle.records.specs.{Refusal, BadOperand, Limits, Glyphs.Glyph, Glyphs.rename}
 use Rattle.records.proofs.Renaming as records
-use Rattle.lists.specs.declared.{Reply.Reply}
-use Rattle.lists.specs.State.{account}
+use Rattle.lists.specs.declared.Reply.{Reply}
+use Rattle.lists.specs.Contract.{account}
 use Rattle.lists.specs.Contract.{Begins}
 use Rattle.lists.specs.Account.{Account, hasOutput, hasPositions, isSpoiled, input, len, idx, outLen, positions, freshAccount, limiting, paying, failing, sized, withInput, withDone, withRest, renamed}
-use Rattle.lists.specs.Results.{Result, Outcome, refused, accepted, answered, outcome, refuse_when_else_, needing, renamedResult}
-use Rattle.lists.specs.Cursor.{fresh, enter, leave, allocateLigId, moved, dropping, back, cursorAt, growing, swapped, spoiling, withoutPositions, opened, positioned, clearOutput, clearPositions, nextGlyphs, skipGlyph, sync, paysFor, forward, goesBack, backward, moveTo}
+use Rattle.lists.specs.Account.{Result, Outcome, refused, accepted, answered, outcome, refuse_when_else_, needing}
+use Rattle.lists.specs.Cursor.{fresh, enter, leave, allocateLigId, moved, dropping, back, cursorAt, growing, outputAsRun, spoiling, withoutPositions, opened, positioned, clearOutput, clearPositions, nextGlyphs, skipGlyph, sync, paysFor, forward, goesBack, backward, moveTo}
+
+unfoldable pub renamedResult : {G H : Type 0} → (G → H) → Result G → Result H
+renamedResult f (refused r) = refused r
+renamedResult f (accepted a) = accepted (renamed f a)
+renamedResult f (answered v a) = answered v (renamed f a)
 
 module _ {G H : Type 0} (f : G → H) where
   -- ---- the parts of an account
@@ -102,8 +107,8 @@ module _ {G H : Type 0} (f : G → H) where
     unfolding renamed growing
     growing-rename n = refl
 
-    swapped-rename : swapped (renamed f a) ≡ renamed f (swapped a)
-    unfolding renamed swapped
+    swapped-rename : outputAsRun (renamed f a) ≡ renamed f (outputAsRun a)
+    unfolding renamed outputAsRun
     swapped-rename = refl
 
     spoiling-rename : spoiling (renamed f a) ≡ renamed f (spoiling a)
@@ -193,6 +198,10 @@ module _ {level wants : ℕ} {r : Reply} (v : Begins level wants r) where
   begun-account : (first second : List ℕ) → account (r .buffer) first second ≡ begun level wants
   unfolding begun
   begun-account first second = ap (λ (o : Outcome ℕ). o .after) (v .is first second)
+
+  -- it is the same in other slices
+  pub begun-same : (first second first′ second′ : List ℕ) → account (r .buffer) first′ second′ ≡ account (r .buffer) first second
+  begun-same first second first′ second′ = begun-account first′ second′ ∙ sym (begun-account first second)
 
   pub begun-renamed : (f : ℕ → ℕ) (first second first′ second′ : List ℕ) → account (r .buffer) first′ second′ ≡ renamed f (account (r .buffer) first second)
   begun-renamed f first second first′ second′ = begun-account first′ second′ ∙ (sym (begun-empty f level wants) ∙ ap (renamed f) (sym (begun-account first second)))

@@ -8,7 +8,7 @@ use lib.ListN.{take, length, getD, length-take, length-reverse, drop-of-length-l
 use lib.Seq.{slice, slice-empty, slice-cons, take-suc, drop-append-le, length-take-le}
 use Rattle.records.specs.Glyphs.{Glyph, key}
 use Rattle.records.specs.Ranges.{least, heads, tails, clusters, infos, isnt}
-use Rattle.records.specs.View.{zeroGlyph}
+use Rattle.records.specs.inner.Stores.{zeroGlyph}
 use Rattle.records.proofs.View.{length-clusters}
 use Rattle.lists.proofs.Infos.{length-words, word-of}
 

@@ -3,8 +3,8 @@ use mathlib.Core.{Path._≡_, Bool.Bool, Bool.true, Bool.cond, List.List}
 use Prim.Native.Nat.{ℕ}
 use lib.{ListN.length}
 use Rattle.records.specs.{Answers.said, Counters.capacityOf, View.wordsFrom}
-use Rattle.lists.specs.declared.{Buffer.Buffer, Reply.Reply}
-use Rattle.lists.specs.{Account.Account, Account.outputPhase, Contract.isNo, Contract.exchanged, Results.Result, Results.outcome, State.accountOf, State.Held}
+use Rattle.lists.specs.{declared.Buffer.Buffer, declared.Reply.Reply}
+use Rattle.lists.specs.{Account.Account, Account.outputPhase, Contract.isNo, inner.Held.exchanged, Account.Result, Account.outcome, Contract.accountOf, inner.Held.Held}
 
 -- a call may exchange the two
 unfoldable pub accountIn : (before : Bool) → Buffer → (run other : List ℕ) → Account ℕ

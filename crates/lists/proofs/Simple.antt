@@ -4,18 +4,19 @@ use Prim.Native.Nat.{ℕ, _+_, _≤_, _<_}
 use native.Mathlib.Omega.{arith}
 use borrow.Author.Tests.{le-leb, lt-leb, le-ltb, lt-ltb}
 use lib.{Dec.ltb, ListN.length, ListN.take, ListN.drop, ListN.take-append-drop, Seq.slice, Seq.slice-empty, Seq.take-take, Seq.drop-drop}
-use Rattle.records.specs.{Phase, Plain, Output, Positions, Spoiled, Refusal, BadOperand, Done, No, Limits, Answers.no, Answers.refusalNumber, Counters.capacityOf, Counters.rightlyLent, Counters.freshLimits, Glyphs.Glyph, Glyphs.change, Glyphs.withPosition, Glyphs.zeroPosition, View.glyphs, View.placements}
+use Rattle.records.specs.{Phase, Plain, Output, Positions, Spoiled, Refusal, BadOperand, Done, No, Limits, Answers.no, Answers.refusalNumber, Counters.capacityOf, Counters.rightlyLent, Counters.freshLimits, Glyphs.Glyph, Glyphs.change, Glyphs.withPosition, Glyphs.zeroPosition, View.glyphs, View.positionsIn}
 use Rattle.records.proofs.View.{glyphs-plain, paired-plain}
 use Rattle.records.proofs.Renaming.{take-map}
-use Rattle.lists.specs.declared.{Buffer.Buffer, Reply.Reply}
+use Rattle.lists.specs.{declared.Buffer.Buffer, declared.Reply.Reply}
 use Rattle.lists.specs.Account.{Account, inPhase, withGone, outputPhase, spoiledPhase, input, len, idx, freshAccount, readLevel}
-use Rattle.lists.specs.Results.{Result, Outcome, refused, accepted, outcome, refuse_when_else_}
+use Rattle.lists.specs.Account.{Result, Outcome, refused, accepted, outcome, refuse_when_else_}
 use Rattle.lists.specs.Cursor.{fresh, dropping, cursorAt, withoutPositions, opened}
-use Rattle.lists.specs.State.{shown, goneOf, stateOf, accountOf, account, inOrder, sound, Soundness, Held}
-use Rattle.lists.specs.States.{atPlaces, freshBuffer, openedBuffer, swappedBuffer, reply}
+use Rattle.lists.specs.{Contract.shown, Contract.goneOf, Contract.stateOf, Contract.accountOf, Contract.account, Contract.inOrder, Contract.sound, inner.Held.Soundness, inner.Held.Held}
+use Rattle.lists.specs.inner.States.{atPlaces, freshBuffer, openedBuffer, swappedBuffer, reply}
 use Rattle.lists.specs.Contract.{Begins}
 use Rattle.lists.proofs.SoundLaws.{held-turned, is-sound, is-unsound, held-first, held-second}
 use Rattle.lists.proofs.Outputs.{gone-output, gone-without}
+use Rattle.lists.proofs.Accounts.{either-slice}
 
 -- ---- a line of a call's tests
 module _ (why : Refusal) (x : Result ℕ) where
@@ -32,12 +33,7 @@ module _ (why : Refusal) (x : Result ℕ) where
 -- ---- what holds whichever slice holds the run holds of the account
 module _ (b : Buffer) (f s : List ℕ) where
   pub on-account : (P : Account ℕ → Type 0) → Held b f s → ((run other : List ℕ) → Held b run other → P (accountOf b run other)) → P (account b f s)
-  unfolding account
-  on-account P v law = by-side (b .swapped)
-    where
-      by-side : (x : Bool) → P (cond x (accountOf b s f) (accountOf b f s))
-      by-side true = law s f (held-turned b f s v)
-      by-side false = law f s v
+  on-account P v law = either-slice b f s P (law s f (held-turned b f s v)) (law f s v)
 
 -- ---- 00
 pub low-level : (level : ℕ) → level ≤ 3 → level ≡ readLevel level
@@ -121,7 +117,7 @@ shown-plain : (p : Phase) (run other : List ℕ) → spoiledPhase p ≡ false �
 unfolding shown
 shown-plain Plain run other h = glyphs-plain run
 shown-plain Output run other h = glyphs-plain run
-shown-plain Positions run other h = paired-plain (glyphs run) (placements other) ∙ glyphs-plain run
+shown-plain Positions run other h = paired-plain (glyphs run) (positionsIn other) ∙ glyphs-plain run
 shown-plain Spoiled run other h = absurd (false≢true (sym h))
 
 module _ (b : Buffer) (run other : List ℕ) (v : Held b run other) where

@@ -6,10 +6,10 @@ use native.Mathlib.Omega.{arith}
 use borrow.Author.Tests.{lt-leb, lt-ltb}
 use lib.{Dec.leb, Dec.ltb}
 use Rattle.records.specs.{OverCapacity, Limits}
-use Rattle.lists.specs.declared.{Room.Room, Room.the-variants.Fits, Room.the-variants.GivesUp, Room.the-variants.Over}
+use Rattle.lists.specs.{declared.Room.Room, declared.Room.the-variants.Fits, declared.Room.the-variants.GivesUp, declared.Room.the-variants.Over}
 use Rattle.lists.specs.Account.{Account}
-use Rattle.lists.specs.State.{roomFor}
-use Rattle.lists.specs.Results.{Result, refused, needing}
+use Rattle.lists.specs.inner.Held.{roomFor}
+use Rattle.lists.specs.Account.{Result, refused, needing}
 
 -- ---- the three answers of a size are three
 RoomCode : Room → Type 0

@@ -7,10 +7,10 @@ use borrow.Author.Tests.{le-leb, lt-leb, leb-true, eqb-true, eq-eqb, ne-eqb}
 use lib.{Dec.eqb, Dec.leb, ListN.length}
 use Rattle.records.specs.{Counters.capacityOf, Counters.rightlyLent, View.glyphs}
 use Rattle.records.proofs.View.{length-glyphs, glyphs-same, lent-same, lent-whole, lent-most, whole-same}
-use Rattle.lists.specs.declared.{Buffer.Buffer}
+use Rattle.lists.specs.declared.Buffer.{Buffer}
 use Rattle.lists.specs.Account.{outputPhase}
-use Rattle.lists.specs.State.{inOrder, sound, Soundness, Held}
-use Rattle.lists.specs.States.{mostOutput}
+use Rattle.lists.specs.{Contract.inOrder, Contract.sound, inner.Held.Soundness, inner.Held.Held}
+use Rattle.lists.specs.inner.States.{mostOutput}
 
 -- ---- refusal 1, as the code tests it
 and-none : (x : Bool) → x && false ≡ false

@@ -4,14 +4,14 @@ use Prim.Native.Nat.{ℕ, _+_, _-_, _≤_}
 use native.Mathlib.Omega.{arith}
 use lib.{Dec.ltb, ListN.length, ListN.take, ListN.drop, Seq.take-nil, Seq.drop-nil}
 use Rattle.records.specs.{Plain, Spoiled, WrongPhase, OverCapacity, Done, Value, No, Limits, Counters.capacityOf, Counters.failed, Counters.grown, Glyphs.Glyph, View.glyphs, View.wordsFrom}
-use Rattle.lists.specs.declared.{Buffer.Buffer, Reply.Reply, Room.the-variants.Fits, Room.the-variants.GivesUp, Room.the-variants.Over}
+use Rattle.lists.specs.{declared.Buffer.Buffer, declared.Reply.Reply, declared.Room.the-variants.Fits, declared.Room.the-variants.GivesUp, declared.Room.the-variants.Over}
 use Rattle.lists.specs.Account.{Account, inPhase, withGone, outputPhase, spoiledPhase, hasOutput, isSpoiled, len, outLen, failing, sized, readLevel}
-use Rattle.lists.specs.Results.{refuse_when_else_, Result, refused, accepted, answered, outcome, needing}
-use Rattle.lists.specs.State.{shown, goneOf, stateOf, accountOf, Held, roomFor}
-use Rattle.lists.specs.States.{reply, withLimitsOf, swappedBuffer, spoiledBuffer}
-use Rattle.lists.specs.Contract.{exchanged}
+use Rattle.lists.specs.Account.{refuse_when_else_, Result, refused, accepted, answered, outcome, needing}
+use Rattle.lists.specs.{Contract.shown, Contract.goneOf, Contract.stateOf, Contract.accountOf, inner.Held.Held, inner.Held.roomFor}
+use Rattle.lists.specs.inner.States.{reply, withLimitsOf, swappedBuffer, spoiledBuffer}
+use Rattle.lists.specs.inner.Held.{exchanged}
 use Rattle.lists.proofs.Sides.{accountIn, MeetsIn, Moves}
-use Rattle.lists.specs.Cursor.{moved, swapped, spoiling, nextGlyphs, sync}
+use Rattle.lists.specs.Cursor.{moved, outputAsRun, spoiling, nextGlyphs, sync}
 use Rattle.lists.proofs.Accounts.{output-clean, output-of, spoiled-of, limits-of, out-of, rest-of, len-of}
 use Rattle.lists.proofs.Moving.{Forwardable}
 use Rattle.lists.proofs.Calls.{in-refused, in-answered}
@@ -66,10 +66,10 @@ module _ (capacity : ℕ) (a : Account ℕ) where
     unfolding sync refuse_when_else_
     sync-spoils k = rw (h, k)
 
-    sync-needs : (n size : ℕ) → length (a .rest) ≡ n → outLen a + n ≡ size → a .state .limits .successful ≡ true → sync capacity a ≡ needing capacity size a (answered 1 (swapped (moved n (sized size a)))) (answered 1 (swapped (failing a)))
+    sync-needs : (n size : ℕ) → length (a .rest) ≡ n → outLen a + n ≡ size → a .state .limits .successful ≡ true → sync capacity a ≡ needing capacity size a (answered 1 (outputAsRun (moved n (sized size a)))) (answered 1 (outputAsRun (failing a)))
     unfolding sync refuse_when_else_
     sync-needs n size en es k =
-        let go : ℕ → ℕ → Result ℕ = λ m s. needing capacity s a (answered 1 (swapped (moved m (sized s a)))) (answered 1 (swapped (failing a))) in
+        let go : ℕ → ℕ → Result ℕ = λ m s. needing capacity s a (answered 1 (outputAsRun (moved m (sized s a)))) (answered 1 (outputAsRun (failing a))) in
         rw h (ap (λ (t : Bool). cond (not t) (answered 0 (spoiling a)) (go (length (a .rest)) (outLen a + length (a .rest)))) k ∙ (ap (λ (m : ℕ). go m (outLen a + m)) en ∙ ap (go n) es))
 
 module _ (b : Buffer) (run other : List ℕ) (v : Held b run other) where
@@ -94,8 +94,8 @@ unfolding spoiledBuffer
 spoiled-side b = refl
 
 -- the output becomes the run, in whichever slice it lies
-swapped-of : (x : Bool) (f : Buffer) (run other : List ℕ) → f .swapped ≡ x → accountIn x (swappedBuffer f) run other ≡ swapped (accountOf f run other)
-unfolding accountIn accountOf stateOf goneOf shown swappedBuffer swapped inPhase withGone
+swapped-of : (x : Bool) (f : Buffer) (run other : List ℕ) → f .swapped ≡ x → accountIn x (swappedBuffer f) run other ≡ outputAsRun (accountOf f run other)
+unfolding accountIn accountOf stateOf goneOf shown swappedBuffer outputAsRun inPhase withGone
 swapped-of x f run other e = by-side (f .«have_separate_output») x (f .swapped) e
   where
     ran : List (Glyph ℕ) → Account ℕ
@@ -114,7 +114,7 @@ swapped-of x f run other e = by-side (f .«have_separate_output») x (f .swapped
 -- a call whose last act is that: f is the buffer before it
 in-swapped : {call : ℕ → Account ℕ → Result ℕ} {b : Buffer} {run other run′ other′ : List ℕ} {r : Reply} (f : Buffer) → f .swapped ≡ b .swapped
     → wordsFrom (f .limits .allocated) run′ ≡ wordsFrom (f .limits .allocated) run → wordsFrom (f .limits .allocated) other′ ≡ wordsFrom (f .limits .allocated) other → Held f run other
-    → call (capacityOf (length run)) (accountOf b run other) ≡ answered 1 (swapped (accountOf f run′ other′)) → r ≡ reply (swappedBuffer f) (Value 1) → MeetsIn call b run other r run′ other′
+    → call (capacityOf (length run)) (accountOf b run other) ≡ answered 1 (outputAsRun (accountOf f run′ other′)) → r ≡ reply (swappedBuffer f) (Value 1) → MeetsIn call b run other r run′ other′
 unfolding outcome swappedBuffer
 in-swapped {call} {b} {run} {other} {run′} {other′} f side br bo v e er = rw er (record {
   is = rw (swapped-of (b .swapped) f run′ other′ side) (sym (ap (outcome (accountOf b run other)) e));
@@ -138,7 +138,7 @@ module _ {b : Buffer} {run other : List ℕ} (v : Syncable b run other) where
   abbrev sync-size : ℕ
   sync-size = b .«out_len» .0 + (b .len .0 - b .idx .0)
 
-  sync-room : sync (capacityOf (length run)) (accountOf b run other) ≡ needing (capacityOf (length run)) sync-size (accountOf b run other) (answered 1 (swapped (moved (b .len .0 - b .idx .0) (sized sync-size (accountOf b run other))))) (answered 1 (swapped (failing (accountOf b run other))))
+  sync-room : sync (capacityOf (length run)) (accountOf b run other) ≡ needing (capacityOf (length run)) sync-size (accountOf b run other) (answered 1 (outputAsRun (moved (b .len .0 - b .idx .0) (sized sync-size (accountOf b run other))))) (answered 1 (outputAsRun (failing (accountOf b run other))))
   sync-room =
       sync-needs _ _ (output-of b run other ∙ v .output) (b .len .0 - b .idx .0) sync-size (rest-of b run other (v .held) (output-clean (b .phase) (v .output))) (ap (λ (j : ℕ). j + (b .len .0 - b .idx .0)) (out-of b run other (v .held)))
       (ap (λ (l : Limits). l .successful) (limits-of b run other) ∙ v .successful)
@@ -149,7 +149,7 @@ module _ {b : Buffer} {run other : List ℕ} (v : Syncable b run other) where
   pub sync-gives-up : {r : Reply} {l : Limits} {g f : Buffer} → roomFor (capacityOf (length run)) sync-size (b .limits) ≡ GivesUp → l ≡ failed (b .limits) → g ≡ withLimitsOf l b → f ≡ swappedBuffer g → r ≡ reply f (Value 1) → MeetsIn (λ capacity a. sync capacity a) b run other r run other
   sync-gives-up h el eg ef er =
       in-swapped (withLimitsOf (failed (b .limits)) b) (limits-side (failed (b .limits)) b) refl refl (held-failed b run other (v .held))
-      (sync-room ∙ (room-gives-up b run other _ _ _ _ h ∙ ap (λ (a : Account ℕ). answered 1 (swapped a)) (sym (failing-of b run other))))
+      (sync-room ∙ (room-gives-up b run other _ _ _ _ h ∙ ap (λ (a : Account ℕ). answered 1 (outputAsRun a)) (sym (failing-of b run other))))
       (er ∙ ap (λ (x : Buffer). reply x (Value 1)) (ef ∙ ap swappedBuffer (eg ∙ ap (λ (x : Limits). withLimitsOf x b) el)))
 
   sync-next : NextOutput b (b .len .0 - b .idx .0) run other
@@ -162,5 +162,5 @@ module _ {b : Buffer} {run other : List ℕ} (v : Syncable b run other) where
   sync-moves {r} {l} {g} {f} {t} {run′} {other′} h el eg w et er =
       let w′ : Moves (moved (b .len .0 - b .idx .0)) (withLimitsOf (grown sync-size (b .limits)) b) run other f run′ other′ = rw (eg, el) at w in
       in-swapped f (w′ .side ∙ limits-side (grown sync-size (b .limits)) b) (move-run w′) (move-other w′) (w′ .held)
-      (sync-room ∙ (room-fits b run other _ _ _ _ h ∙ ap (λ (a : Account ℕ). answered 1 (swapped a)) (ap (moved (b .len .0 - b .idx .0)) (sym (sized-of b run other sync-size)) ∙ sym (w′ .is))))
+      (sync-room ∙ (room-fits b run other _ _ _ _ h ∙ ap (λ (a : Account ℕ). answered 1 (outputAsRun a)) (ap (moved (b .len .0 - b .idx .0)) (sym (sized-of b run other sync-size)) ∙ sym (w′ .is))))
       (er ∙ ap (λ (x : Buffer). reply x (Value 1)) et)

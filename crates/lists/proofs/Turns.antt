@@ -6,7 +6,7 @@ use native.Mathlib.Numerals.{add-one}
 use native.Mathlib.Omega.{arith}
 use lib.ListN.{take, drop, length, getD, set, length-append, length-set, take-append-drop}
 use lib.Seq.{slice, drop-cons, set-at, take-at, drop-at, length-take-le, length-slice, drop-append-le}
-use Rattle.lists.specs.Turned.{turned, exchange}
+use Rattle.lists.specs.inner.Turned.{turned, exchange}
 
 -- ---- a list by its parts, with an x and a y at the ends of the range
 module _ {A : Type 0} (F M B : List A) (x y : A) where

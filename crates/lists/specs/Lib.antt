@@ -1,14 +1,4 @@
 pub mod Account
-pub mod Results
 pub mod Cursor
-pub mod State
-pub mod States
 pub mod Contract
-pub mod Verdicts
-pub mod Copied
-pub mod Filled
-pub mod Insertion
-pub mod Items
-pub mod Moving
-pub mod Masks
-pub mod Turned
+pub mod inner

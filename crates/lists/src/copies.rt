@@ -3,7 +3,7 @@ ghost use mathlib.Core.Path.{_≡_};
 ghost use Prim.Native.Nat.{_+_, _≤_};
 ghost use lib.ListN.{length};
 ghost use Rattle.records.specs.View.{glyphs};
-ghost use Rattle.lists.specs.Copied.{copied};
+ghost use Rattle.lists.specs.inner.Copied.{copied};
 
 // From one slice to another.
 pub fn copy_across(src: &[u32], dst: &mut [u32], from: usize, to: usize, n: usize)

@@ -2,9 +2,9 @@
 ghost use mathlib.Core.Path.{_≡_};
 ghost use mathlib.Core.Bool.{cond};
 ghost use mathlib.Core.List.{[]};
-ghost use Rattle.records.specs.View.{glyphs, Whole};
+ghost use Rattle.records.specs.{View.glyphs, View.Whole};
 ghost use Rattle.lists.specs.Cursor.{fresh, enter, leave, allocateLigId, clearOutput, clearPositions, nextGlyphs, skipGlyph, sync, moveTo};
-ghost use Rattle.lists.specs.State.{account, sound};
+ghost use Rattle.lists.specs.Contract.{account, sound};
 ghost use Rattle.lists.specs.Contract.{Meets};
 use super::Buffer;
 use super::Reply;

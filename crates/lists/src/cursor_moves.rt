@@ -1,7 +1,7 @@
 // What `move_to` comes to: 10.
 ghost use mathlib.Core.Path.{_≡_};
 ghost use Prim.Native.Nat.{_+_, _-_, _≤_, _<_, _^_};
-ghost use Rattle.lists.specs.Moving.{Opened, Forwarding, BackOver, Forwards, Backs, Shifts, MovesForward, MovesBack, MovesTo};
+ghost use Rattle.lists.specs.inner.Moving.{Opened, Forwarding, BackOver, Forwards, Backs, Shifts, MovesForward, MovesBack, MovesTo};
 use super::Buffer;
 use super::Room;
 use super::Verdict;

@@ -3,8 +3,8 @@ ghost use mathlib.Core.Path.{_≡_};
 ghost use Prim.Native.Nat.{_≤_};
 ghost use lib.ListN.{length};
 ghost use Rattle.records.specs.Glyphs.{blank, zeroPosition};
-ghost use Rattle.records.specs.View.{glyphs, placements};
-ghost use Rattle.lists.specs.Filled.{filled};
+ghost use Rattle.records.specs.View.{glyphs, positionsIn};
+ghost use Rattle.lists.specs.inner.Filled.{filled};
 
 // The glyphs of a range become zero.
 pub fn zero_glyphs(ws: &mut [u32], s: usize, e: usize)
@@ -20,8 +20,8 @@ pub fn zero_glyphs(ws: &mut [u32], s: usize, e: usize)
 
 // The positions of a range become zero.
 pub fn zero_positions(ws: &mut [u32], s: usize, e: usize)
-    requires { ⌜ (s ≤ e) × (e ≤ length (placements (now ws))) ⌝ }
-    ensures { λ r. ⌜ placements (now (ws .exit)) ≡ filled zeroPosition s e (placements (now (ws .entry))) ⌝ }
+    requires { ⌜ (s ≤ e) × (e ≤ length (positionsIn (now ws))) ⌝ }
+    ensures { λ r. ⌜ positionsIn (now (ws .exit)) ≡ filled zeroPosition s e (positionsIn (now (ws .entry))) ⌝ }
 {
     let mut i = s;
     while i < e {

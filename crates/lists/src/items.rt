@@ -4,11 +4,11 @@ ghost use mathlib.Core.Bool.{cond};
 ghost use mathlib.Core.List.{[], map};
 ghost use Prim.Native.Nat.{_+_, _≤_};
 ghost use lib.ListN.{length, getD, take};
-ghost use Rattle.records.specs.View.{placements};
-ghost use Rattle.lists.specs.declared.Item.the-variants.{Placed, Nothing};
+ghost use Rattle.records.specs.View.{positionsIn};
+ghost use Rattle.lists.specs.declared.Item.the-variants.{OfPosition, Nothing};
 ghost use Rattle.lists.specs.Account.{positionsPhase};
-ghost use Rattle.lists.specs.State.{accountOf, account, sound, Held, goneOf};
-ghost use Rattle.lists.specs.Items.{items};
+ghost use Rattle.lists.specs.{Contract.accountOf, Contract.account, Contract.sound, inner.Held.Held, Contract.goneOf};
+ghost use Rattle.lists.specs.Contract.{items};
 use super::Buffer;
 use super::Item;
 use super::state;
@@ -44,13 +44,13 @@ pub fn item_count(b: Buffer, first: &[u32], second: &[u32]) -> usize
 
 // The k-th position.
 fn position_item(b: Buffer, other: &[u32], k: usize) -> Item
-    requires { ⌜ b .len .0 ≤ length (placements (now other)) ⌝ }
-    ensures { λ r. ⌜ r ≡ getD (map Placed (cond (positionsPhase (b .phase)) (take (b .len .0) (placements (now (other .entry)))) [])) k Nothing ⌝ }
+    requires { ⌜ b .len .0 ≤ length (positionsIn (now other)) ⌝ }
+    ensures { λ r. ⌜ r ≡ getD (map OfPosition (cond (positionsPhase (b .phase)) (take (b .len .0) (positionsIn (now (other .entry)))) [])) k Nothing ⌝ }
 {
     let phase = b.phase;
     if state::have_positions(phase) {
         if k < b.len.0 {
-            return Item::Placed(records::positions::get(other, k));
+            return Item::OfPosition(records::positions::get(other, k));
         }
     }
     Item::Nothing

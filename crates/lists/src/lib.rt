@@ -1,30 +1,32 @@
 // Lists of the shaping buffer: its state, the moves between the two lent slices, and the cursor's calls.
 use records::Answer;
 use records::DonePlace;
-use records::Glyph;
+use records::GlyphInfo;
 use records::InputPlace;
 use records::Limits;
 use records::Phase;
 use records::Position;
 
-pub mod copies;
 pub mod cursor;
+pub mod items;
+pub mod lent;
+
+// Below the calls, for the crates above: functions that ask for something, or speak of a state and not of its account.
+pub mod copies;
 mod cursor_moves;
 mod deciding;
 pub mod fills;
 pub mod groups;
-pub mod items;
 pub mod keys;
-pub mod lent;
 pub mod masks;
-pub mod moves;
+mod moves;
 pub mod ranges;
 pub mod reversals;
 pub mod rotation;
 pub mod state;
 pub mod verdicts;
 
-// The state of a buffer, beside the two slices that are lent to every call. specs/State.antt says which account it is.
+// The state of a buffer, beside the two slices that are lent to every call. specs/Contract.antt says which account it is.
 // The fields stand so that no gap between them has three or more odd bytes: LLVM copies such a gap through memory.
 pub struct Buffer {
     pub idx: InputPlace,
@@ -68,9 +70,9 @@ pub enum Room {
 
 // One of the things that a buffer shows: a glyph of a list, or a position.
 pub enum Item {
-    OfDone(Glyph),
-    OfPassed(Glyph),
-    OfRest(Glyph),
-    Placed(Position),
+    OfDone(GlyphInfo),
+    OfPassed(GlyphInfo),
+    OfRest(GlyphInfo),
+    OfPosition(Position),
     Nothing,
 }

@@ -7,7 +7,7 @@ ghost use lib.Seq.{slice};
 ghost use Rattle.records.specs.Glyphs.{Info, withMask};
 ghost use Rattle.records.specs.Ranges.{infos, edit};
 ghost use Rattle.records.specs.View.{glyphs};
-ghost use Rattle.lists.specs.Masks.{joinedLow};
+ghost use Rattle.lists.specs.inner.Masks.{joinedLow};
 
 // The low three bits of the masks of a range, joined.
 pub fn joined_masks(ws: &[u32], s: usize, e: usize) -> u32

@@ -3,10 +3,10 @@ ghost use mathlib.Core.Path.{_≡_};
 ghost use mathlib.Core.Bool.{cond};
 ghost use Prim.Native.Nat.{_+_, _≤_};
 ghost use lib.ListN.{length};
-ghost use Rattle.records.specs.View.{glyphs, placements};
-ghost use Rattle.lists.specs.Copied.{copied};
-ghost use Rattle.lists.specs.Moving.{Carried, Carriable, Moved, Movable, Zeroed};
-ghost use Rattle.lists.specs.Verdicts.{Sided};
+ghost use Rattle.records.specs.View.{glyphs, positionsIn};
+ghost use Rattle.lists.specs.inner.Copied.{copied};
+ghost use Rattle.lists.specs.inner.Moving.{Carried, Carriable, Moved, Movable, Zeroed};
+ghost use Rattle.lists.specs.inner.Verdicts.{Sided};
 
 // n glyphs of the run, from place `from` on, go to place `to` of the output. Where they lie there already, nothing is written.
 fn carry(run: &mut [u32], other: &mut [u32], separate: bool, from: usize, to: usize, n: usize)
@@ -135,7 +135,7 @@ pub(crate) fn move_by(
 
 // Positions, all zero, for n glyphs of the run.
 pub(crate) fn zero_positions_by(first: &mut [u32], second: &mut [u32], swapped: bool, n: usize)
-    requires { ⌜ (n ≤ length (placements (now first))) × (n ≤ length (placements (now second))) ⌝ }
+    requires { ⌜ (n ≤ length (positionsIn (now first))) × (n ≤ length (positionsIn (now second))) ⌝ }
     ensures { λ r. ⌜ Sided swapped (Zeroed n) (now (first .entry)) (now (second .entry)) (now (first .exit)) (now (second .exit)) ⌝ }
 {
     if swapped {

@@ -4,8 +4,8 @@ ghost use mathlib.Core.Path.{_≡_};
 ghost use Prim.Native.Nat.{_<_, _≤_};
 ghost use lib.ListN.{length};
 ghost use Rattle.records.specs.Glyphs.{zeroPosition};
-ghost use Rattle.records.specs.View.{glyphs, placements, zeroGlyph};
-ghost use Rattle.lists.specs.Turned.{turned, exchange};
+ghost use Rattle.records.specs.{View.glyphs, View.positionsIn, inner.Stores.zeroGlyph};
+ghost use Rattle.lists.specs.inner.Turned.{turned, exchange};
 
 fn swap_glyphs(ws: &mut [u32], i: usize, j: usize)
     requires { ⌜ (i < length (glyphs (now ws))) × (j < length (glyphs (now ws))) ⌝ }
@@ -33,8 +33,8 @@ pub fn reverse_glyphs(ws: &mut [u32], s: usize, e: usize)
 }
 
 fn swap_positions(ws: &mut [u32], i: usize, j: usize)
-    requires { ⌜ (i < length (placements (now ws))) × (j < length (placements (now ws))) ⌝ }
-    ensures { λ r. ⌜ placements (now (ws .exit)) ≡ exchange zeroPosition i j (placements (now (ws .entry))) ⌝ }
+    requires { ⌜ (i < length (positionsIn (now ws))) × (j < length (positionsIn (now ws))) ⌝ }
+    ensures { λ r. ⌜ positionsIn (now (ws .exit)) ≡ exchange zeroPosition i j (positionsIn (now (ws .entry))) ⌝ }
 {
     let x = records::positions::get(ws, i);
     let y = records::positions::get(ws, j);
@@ -43,8 +43,8 @@ fn swap_positions(ws: &mut [u32], i: usize, j: usize)
 }
 
 pub fn reverse_positions(ws: &mut [u32], s: usize, e: usize)
-    requires { ⌜ (s ≤ e) × (e ≤ length (placements (now ws))) ⌝ }
-    ensures { λ r. ⌜ placements (now (ws .exit)) ≡ turned s e (placements (now (ws .entry))) ⌝ }
+    requires { ⌜ (s ≤ e) × (e ≤ length (positionsIn (now ws))) ⌝ }
+    ensures { λ r. ⌜ positionsIn (now (ws .exit)) ≡ turned s e (positionsIn (now (ws .entry))) ⌝ }
 {
     let mut i = s;
     let mut j = e;

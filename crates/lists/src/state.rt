@@ -3,8 +3,8 @@ ghost use mathlib.Core.Path.{_≡_};
 ghost use mathlib.Core.Bool.{not, cond};
 ghost use Rattle.lists.specs.Account.{outputPhase, positionsPhase, spoiledPhase, readLevel};
 ghost use Rattle.lists.specs.Contract.{Begins};
-ghost use Rattle.lists.specs.State.{inOrder, Soundness, roomFor};
-ghost use Rattle.lists.specs.States.{mostOutput, atPlaces, withLimitsOf, freshBuffer, apartBuffer, openedBuffer, positionedBuffer, swappedBuffer, spoiledBuffer, reply};
+ghost use Rattle.lists.specs.{Contract.inOrder, inner.Held.Soundness, inner.Held.roomFor};
+ghost use Rattle.lists.specs.inner.States.{mostOutput, atPlaces, withLimitsOf, freshBuffer, apartBuffer, openedBuffer, positionedBuffer, swappedBuffer, spoiledBuffer, reply};
 use super::Buffer;
 use super::Reply;
 use super::Room;
@@ -132,7 +132,7 @@ pub fn accepted(b: Buffer) -> Reply
     }
 }
 
-pub fn answered(b: Buffer, value: u32) -> Reply
+pub(crate) fn answered(b: Buffer, value: u32) -> Reply
     ensures { λ r. ⌜ r ≡ reply b (Answer.Value value) ⌝ }
 {
     Reply {
@@ -191,17 +191,8 @@ impl Buffer {
     }
 }
 
-// The output lies in the other slice.
-pub fn apart(b: Buffer) -> Buffer
-    ensures { λ r. ⌜ r ≡ apartBuffer b ⌝ }
-{
-    let mut r = b;
-    r.have_separate_output = true;
-    r
-}
-
 // The run as input for an output that is empty and lies in the run.
-pub fn opened(b: Buffer) -> Buffer
+pub(crate) fn opened(b: Buffer) -> Buffer
     ensures { λ r. ⌜ r ≡ openedBuffer b ⌝ }
 {
     let len = b.len;
@@ -219,7 +210,7 @@ pub fn opened(b: Buffer) -> Buffer
     }
 }
 
-pub fn positioned(b: Buffer) -> Buffer
+pub(crate) fn positioned(b: Buffer) -> Buffer
     ensures { λ r. ⌜ r ≡ positionedBuffer b ⌝ }
 {
     let idx = b.idx;
@@ -245,7 +236,7 @@ fn exchanged(swapped: bool, separate: bool) -> bool
 }
 
 // The output as the run.
-pub fn swapped(b: Buffer) -> Buffer
+pub(crate) fn swapped(b: Buffer) -> Buffer
     ensures { λ r. ⌜ r ≡ swappedBuffer b ⌝ }
 {
     let limits = b.limits;
@@ -262,7 +253,7 @@ pub fn swapped(b: Buffer) -> Buffer
     }
 }
 
-pub fn spoiled(b: Buffer) -> Buffer
+pub(crate) fn spoiled(b: Buffer) -> Buffer
     ensures { λ r. ⌜ r ≡ spoiledBuffer b ⌝ }
 {
     let len = b.len;

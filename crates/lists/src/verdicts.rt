@@ -2,8 +2,8 @@
 ghost use mathlib.Core.Path.{_≡_};
 ghost use mathlib.Core.Bool.{false};
 ghost use Prim.Native.Nat.{_+_, _<_, _^_};
-ghost use Rattle.lists.specs.States.{atPlaces};
-ghost use Rattle.lists.specs.Verdicts.{Leaves, failedBuffer, Sized, liesElsewhere, settled, settledAs, synced};
+ghost use Rattle.lists.specs.inner.States.{atPlaces};
+ghost use Rattle.lists.specs.inner.Verdicts.{Leaves, failedBuffer, Sized, liesElsewhere, settled, settledAs, synced};
 use super::Buffer;
 use super::Reply;
 use super::Room;
@@ -48,7 +48,7 @@ pub fn fails(b: Buffer, answer: Answer) -> Verdict
 }
 
 // The cursor goes on by n, and nothing is written.
-pub fn passes(b: Buffer, n: usize) -> Verdict
+pub(crate) fn passes(b: Buffer, n: usize) -> Verdict
     requires { ⌜ b .idx .0 + n < 2 ^ 64 ⌝ }
     ensures { λ r. ⌜ Leaves (atPlaces (b .idx .0 + n) (b .len .0) (b .«out_len» .0) b) false Answer.Done r ⌝ }
 {
@@ -75,7 +75,7 @@ pub fn writes(b: Buffer, capacity: usize, num_in: usize, num_out: usize, acts: b
 }
 
 // Whether the glyphs at the cursor stand elsewhere than behind the output.
-pub fn lies_elsewhere(b: Buffer) -> bool
+pub(crate) fn lies_elsewhere(b: Buffer) -> bool
     ensures { λ r. ⌜ r ≡ liesElsewhere b ⌝ }
 {
     if b.have_separate_output {
@@ -108,7 +108,7 @@ pub fn settled(b: Buffer, v: Verdict) -> Reply
 }
 
 // The reply of a call that leaves another state than its verdict's places: `after`, where it acts.
-pub fn settled_as(b: Buffer, after: Buffer, v: Verdict) -> Reply
+pub(crate) fn settled_as(b: Buffer, after: Buffer, v: Verdict) -> Reply
     ensures { λ r. ⌜ r ≡ settledAs b after v ⌝ }
 {
     if v.acts {

@@ -1,9 +1,9 @@
 -- Document 01's examples, as far as counters and single glyphs go.
 use mathlib.Core.{Path._≡_, Path.refl, Bool.true, Bool.false, List.[], List._∷_}
 use Prim.Native.Nat.{ℕ}
-use Rattle.records.specs.declared.{Limits.Limits}
+use Rattle.records.specs.declared.Limits.{Limits}
 use Rattle.records.specs.Bytes.{wordsOf}
-use Rattle.records.specs.Counters.{capacityOf, rightlyLent, freshLimits, costs, entered, left, ligSerial}
+use Rattle.records.specs.Counters.{capacityOf, rightlyLent, freshLimits, costs, afterEnter, afterLeave, ligSerial}
 use Rattle.records.specs.Glyphs.{Info, zeroPosition, setCluster}
 use Rattle.records.proofs.Executable.{executable}
 
@@ -20,11 +20,11 @@ unfolding paid executable
 wraps = (refl, refl, refl, refl, refl, refl)
 
 -- ★2, ★4: `enter`; and `leave` after it
-enters : ((entered 16 freshLimits) .«max_ops» ≡ 65536) × ((entered 17 freshLimits) .«max_ops» ≡ 69632) × ((entered 524287 freshLimits) .«max_ops» ≡ 2147479552) × ((entered 524288 freshLimits) .«max_ops» ≡ 536870911)
+enters : ((afterEnter 16 freshLimits) .«max_ops» ≡ 65536) × ((afterEnter 17 freshLimits) .«max_ops» ≡ 69632) × ((afterEnter 524287 freshLimits) .«max_ops» ≡ 2147479552) × ((afterEnter 524288 freshLimits) .«max_ops» ≡ 536870911)
 unfolding executable
 enters = (refl, refl, refl, refl)
 
-leaves : left (entered 300 freshLimits) ≡ freshLimits
+leaves : afterLeave (afterEnter 300 freshLimits) ≡ freshLimits
 unfolding executable
 leaves = refl
 

@@ -4,7 +4,7 @@ use Prim.Native.Nat.{ℕ, zero, suc, _+_, _*_, _/_, _%_, _<_}
 use native.Mathlib.Nat.{suc-add}
 use native.Mathlib.Omega.{arith}
 use lib.{ListN.length, ListN.getD, ListN.set, ListN.drop, ListN.take, ListN.length-drop, Seq.drop-nil, Seq.take-nil}
-use Rattle.records.specs.View.{fives, putFive}
+use Rattle.records.specs.{View.fives, inner.Stores.putFive}
 
 pub five-suc : (i : ℕ) → 5 * suc i ≡ suc (suc (suc (suc (suc (5 * i)))))
 five-suc i = omega arith

@@ -1,5 +1,7 @@
+pub mod Apart
 pub mod ByteLaws
 pub mod Counting
+pub mod Edited
 pub mod Examples
 pub mod Executable
 pub mod Fives

@@ -4,15 +4,15 @@ use Prim.Native.Nat.{ℕ, zero, suc, _+_, _-_, _*_, _/_, _%_, _≤_, _<_}
 use native.Mathlib.Omega.{arith}
 use lib.{ListN.length, ListN.getD, ListN.set, ListN.drop, ListN.take, ListN.replicate, ListN.length-map, ListN.List·getD-map, Seq.set-getD, Seq.drop-drop, Seq.length-take-le, Dec.eqb, Dec.leb, Bits.bitAnd, Bits.bitOr}
 use borrow.Author.Tests.{eq-eqb, ne-eqb, eqb-true, leb-true}
-use Rattle.records.specs.declared.{Position.Position, Glyph.Glyph as Words}
+use Rattle.records.specs.{declared.Position.Position, declared.GlyphInfo.GlyphInfo}
 use Rattle.records.specs.Counters.{capacityOf, rightlyLent}
 use Rattle.records.specs.Glyphs.{Glyph, change, setCluster, withMask, withCluster, withPosition, flagged, flaggedUnless, key, zeroPosition}
 use Rattle.records.specs.Ranges.{clusters}
-use Rattle.records.specs.View.{fives, glyphOf, glyphs, positionOf, placements, paired, wordsFrom, Whole, seen, stored, zeroGlyph, wordsAt, placeAt, putWords, putPlace}
+use Rattle.records.specs.{View.fives, View.glyphOf, View.glyphs, View.positionOf, View.positionsIn, View.paired, View.wordsFrom, View.Whole, View.seen, View.stored, inner.Stores.zeroGlyph, inner.Stores.infoAt, inner.Stores.positionAt, inner.Stores.putInfo, inner.Stores.putPosition}
 use Rattle.records.proofs.Fives.{length-fives, fives-room, getD-fives, put-fives, put-second, put-two, take-fives, beyond-fives}
 
 -- ---- the words of the struct, as a glyph
-module _ (g : Words) where
+module _ (g : GlyphInfo) where
   pub seen-number : seen g .glyph ≡ g .glyph
   unfolding seen glyphOf
   seen-number = refl
@@ -57,9 +57,9 @@ unfolding Whole wordsFrom glyphs glyphOf
 beyond-glyphs n v w h l e =
     beyond-fives glyphOf (λ g. g .glyph ∷ (g .info .mask ∷ (g .info .cluster ∷ (g .info .var0 ∷ (g .info .var1 ∷ []))))) (λ a b c d e. refl) n v w h l e
 
-pub beyond-placements : (n : ℕ) (v w : List ℕ) → Whole v → length v ≡ length w → drop n (placements v) ≡ drop n (placements w) → wordsFrom n v ≡ wordsFrom n w
-unfolding Whole wordsFrom placements positionOf
-beyond-placements n v w h l e =
+pub beyond-positions : (n : ℕ) (v w : List ℕ) → Whole v → length v ≡ length w → drop n (positionsIn v) ≡ drop n (positionsIn w) → wordsFrom n v ≡ wordsFrom n w
+unfolding Whole wordsFrom positionsIn positionOf
+beyond-positions n v w h l e =
     beyond-fives positionOf (λ p. p .«x_advance» ∷ (p .«y_advance» ∷ (p .«x_offset» ∷ (p .«y_offset» ∷ (p .var ∷ []))))) (λ a b c d e. refl) n v w h l e
 
 -- words that are the same from a place on are so from any later one
@@ -140,29 +140,29 @@ pub length-glyphs : (ws : List ℕ) → length (glyphs ws) ≡ capacityOf (lengt
 unfolding glyphs capacityOf
 length-glyphs ws = length-fives glyphOf ws
 
-pub length-placements : (ws : List ℕ) → length (placements ws) ≡ capacityOf (length ws)
-unfolding placements capacityOf
-length-placements ws = length-fives positionOf ws
+pub length-positions : (ws : List ℕ) → length (positionsIn ws) ≡ capacityOf (length ws)
+unfolding positionsIn capacityOf
+length-positions ws = length-fives positionOf ws
 
 pub glyphs-fit : (ws : List ℕ) → length (glyphs ws) ≤ length ws
 unfolding capacityOf
 glyphs-fit ws = omega (arith, length-glyphs ws)
 
-pub placements-fit : (ws : List ℕ) → length (placements ws) ≤ length ws
+pub positions-fit : (ws : List ℕ) → length (positionsIn ws) ≤ length ws
 unfolding capacityOf
-placements-fit ws = omega (arith, length-placements ws)
+positions-fit ws = omega (arith, length-positions ws)
 
 pub glyphs-same : (a b : List ℕ) → length a ≡ length b → length (glyphs a) ≡ length (glyphs b)
 unfolding capacityOf
 glyphs-same a b h = omega (arith, length-glyphs a, length-glyphs b)
 
-pub placements-same : (a b : List ℕ) → length a ≡ length b → length (placements a) ≡ length (placements b)
+pub positions-same : (a b : List ℕ) → length a ≡ length b → length (positionsIn a) ≡ length (positionsIn b)
 unfolding capacityOf
-placements-same a b h = omega (arith, length-placements a, length-placements b)
+positions-same a b h = omega (arith, length-positions a, length-positions b)
 
 -- as many positions as glyphs
-pub placements-glyphs : (ws : List ℕ) → length (placements ws) ≡ length (glyphs ws)
-placements-glyphs ws = length-placements ws ∙ sym (length-glyphs ws)
+pub positions-glyphs : (ws : List ℕ) → length (positionsIn ws) ≡ length (glyphs ws)
+positions-glyphs ws = length-positions ws ∙ sym (length-glyphs ws)
 
 pub length-clusters : {G : Type 0} (l : List (Glyph G)) → length (clusters l) ≡ length l
 unfolding clusters
@@ -179,14 +179,14 @@ module _ (ws : List ℕ) (i : ℕ) (h : i < length (glyphs ws)) where
   unfolding glyphs
   glyph-room = fives-room glyphOf ws i h
 
-  pub getD-glyphs : getD (glyphs ws) i zeroGlyph ≡ seen (wordsAt ws (5 * i))
+  pub getD-glyphs : getD (glyphs ws) i zeroGlyph ≡ seen (infoAt ws (5 * i))
   unfolding glyphs seen
   getD-glyphs = getD-fives glyphOf ws i zeroGlyph h
 
-  pub get-glyphs : {g : Words} → g ≡ wordsAt ws (5 * i) → seen g ≡ getD (glyphs ws) i zeroGlyph
+  pub get-glyphs : {g : GlyphInfo} → g ≡ infoAt ws (5 * i) → seen g ≡ getD (glyphs ws) i zeroGlyph
   get-glyphs e = ap seen e ∙ sym getD-glyphs
 
-  pub put-glyphs : {ws′ : List ℕ} (g : Words) → ws′ ≡ putWords ws (5 * i) g → glyphs ws′ ≡ set (glyphs ws) i (seen g)
+  pub put-glyphs : {ws′ : List ℕ} (g : GlyphInfo) → ws′ ≡ putInfo ws (5 * i) g → glyphs ws′ ≡ set (glyphs ws) i (seen g)
   unfolding glyphs seen
   put-glyphs g e = rw e (put-fives glyphOf ws i (g .glyph) (g .mask) (g .cluster) (g .var0) (g .var1) h)
 
@@ -243,15 +243,15 @@ module _ (l : List (Glyph ℕ)) (i c bits : ℕ) where
   unless-other ex n e = e ∙ rw (ne-eqb (getD l i zeroGlyph .info .cluster) c (λ (q : getD l i zeroGlyph .info .cluster ≡ c). n (ex ∙ (cluster-of l i ∙ q))))
 
 -- ---- positions
-module _ (ws : List ℕ) (i : ℕ) (h : i < length (placements ws)) where
+module _ (ws : List ℕ) (i : ℕ) (h : i < length (positionsIn ws)) where
   pub place-room : 5 * i + 4 < length ws
-  unfolding placements
+  unfolding positionsIn
   place-room = fives-room positionOf ws i h
 
-  pub getD-placements : getD (placements ws) i zeroPosition ≡ placeAt ws (5 * i)
-  unfolding placements positionOf
-  getD-placements = getD-fives positionOf ws i zeroPosition h
+  pub getD-positions : getD (positionsIn ws) i zeroPosition ≡ positionAt ws (5 * i)
+  unfolding positionsIn positionOf
+  getD-positions = getD-fives positionOf ws i zeroPosition h
 
-  pub put-placements : {ws′ : List ℕ} (p : Position) → ws′ ≡ putPlace ws (5 * i) p → placements ws′ ≡ set (placements ws) i p
-  unfolding placements positionOf
-  put-placements p e = rw e (put-fives positionOf ws i (p .«x_advance») (p .«y_advance») (p .«x_offset») (p .«y_offset») (p .var) h)
+  pub put-positions : {ws′ : List ℕ} (p : Position) → ws′ ≡ putPosition ws (5 * i) p → positionsIn ws′ ≡ set (positionsIn ws) i p
+  unfolding positionsIn positionOf
+  put-positions p e = rw e (put-fives positionOf ws i (p .«x_advance») (p .«y_advance») (p .«x_offset») (p .«y_offset») (p .var) h)

@@ -1,60 +1,45 @@
 -- The counters that no list shows (allocated size, max_len, max_ops, successful, serial), and the lengths of the lent slices.
-use mathlib.Core.{Bool.Bool, Bool.true, Bool.false, Bool.cond, Bool.not, Bool._&&_}
-use Prim.Native.Nat.{ℕ, suc, _+_, _-_, _*_, _/_, _%_, max}
-use lib.{Dec.eqb, Dec.leb}
-use Rattle.records.specs.declared.{Limits.Limits}
+use Rattle.records.specs.Library.{ℕ, suc, _+_, _-_, _*_, _/_, _%_, max, Bool, true, false, cond, not, _&&_, eqb, leb}
+use Rattle.records.specs.declared.Limits.{Limits}
 
 -- "two word slices of equal length, five words a glyph": the capacity of a slice of this length
 unfoldable pub capacityOf : ℕ → ℕ
 capacityOf words = words / 5
-
 -- what refusal 1 reads of the slices: "unequal, not whole glyphs, too long", for "at most 1,048,576 glyphs"
-unfoldable pub rightlyLent : ℕ → ℕ → Bool
-rightlyLent first second = eqb first second && (eqb (first % 5) 0 && leb (capacityOf first) 1048576)
-
+unfoldable pub rightlyLent : (m n : ℕ) → Bool  -- the lengths of both
+rightlyLent m n = eqb m n && (eqb (m % 5) 0 && leb (capacityOf m) 1048576)
 -- "wrapping in 32 signed bits as a release build does": a signed number is held as its word, which is below 0 from 2^31 on
-unfoldable pub wrappingSub : ℕ → ℕ → ℕ
+unfoldable pub wrappingSub : (x n : ℕ) → ℕ
 wrappingSub x n = (x + 4294967296 - n % 4294967296) % 4294967296
-
 unfoldable pub isNegative : ℕ → Bool
 isNegative x = leb 2147483648 x
-
 -- "allocated 0, `serial` 0, `successful` true, `max_len` 1,073,741,823, `max_ops` 536,870,911"
 unfoldable pub freshLimits : Limits
 freshLimits = record { allocated = 0; «max_len» = 1073741823; «max_ops» = 536870911; successful = true; serial = 0 }
-
 -- "Costs n": "`max_ops` falls by n, wrapping in 32 signed bits as a release build does; below 0 sets `successful` false."
 unfoldable pub costs : ℕ → Limits → Limits
 costs n l =
     let ops = wrappingSub (l .«max_ops») n in
     record { allocated = l .allocated; «max_len» = l .«max_len»; «max_ops» = ops; successful = l .successful && not (isNegative ops); serial = l .serial }
-
 -- "gives up (`successful` false)"
 unfoldable pub failed : Limits → Limits
 failed l = record { allocated = l .allocated; «max_len» = l .«max_len»; «max_ops» = l .«max_ops»; successful = false; serial = l .serial }
-
--- "nothing if n ≤ allocated; .. else allocated becomes n"
+-- "nothing if n ≤ allocated", and "else allocated becomes n"
 unfoldable pub grown : ℕ → Limits → Limits
 grown n l = record { allocated = max n (l .allocated); «max_len» = l .«max_len»; «max_ops» = l .«max_ops»; successful = l .successful; serial = l .serial }
-
-unfoldable pub limited : ℕ → ℕ → Limits → Limits
-limited len ops l = record { allocated = l .allocated; «max_len» = len; «max_ops» = ops; successful = l .successful; serial = 0 }
-
+unfoldable pub limited : (most ops : ℕ) → Limits → Limits  -- another `max_len` and `max_ops`, and `serial` 0
+limited most ops l = record { allocated = l .allocated; «max_len» = most; «max_ops» = ops; successful = l .successful; serial = 0 }
 -- "`enter`: `max_len` = max(256 × len, 65,536); `max_ops` = max(4,096 × len, 65,536), kept if the product exceeds 2^31 − 1; `serial` 0."
-unfoldable pub entered : ℕ → Limits → Limits
-entered len l = limited (max (256 * len) 65536) (cond (leb (4096 * len) 2147483647) (max (4096 * len) 65536) (l .«max_ops»)) l
-
+unfoldable pub afterEnter : (len : ℕ) → Limits → Limits
+afterEnter len l = limited (max (256 * len) 65536) (cond (leb (4096 * len) 2147483647) (max (4096 * len) 65536) (l .«max_ops»)) l
 -- "`leave`: all three as fresh."
-unfoldable pub left : Limits → Limits
-left l = limited (freshLimits .«max_len») (freshLimits .«max_ops») l
-
+unfoldable pub afterLeave : Limits → Limits
+afterLeave l = limited (freshLimits .«max_len») (freshLimits .«max_ops») l
 unfoldable pub withSerial : ℕ → Limits → Limits
 withSerial s l = record { allocated = l .allocated; «max_len» = l .«max_len»; «max_ops» = l .«max_ops»; successful = l .successful; serial = s }
-
 -- "`next_serial` skips 0."
 unfoldable pub nextSerial : ℕ → ℕ
 nextSerial s = let t = suc s % 256 in cond (eqb t 0) 1 t
-
 -- "`allocate_lig_id` draws until the low three bits, the id, are nonzero": 8k is followed by 8k + 1, so a second draw is the last
 unfoldable pub ligSerial : ℕ → ℕ
 ligSerial s = let t = nextSerial s in cond (eqb (t % 8) 0) (nextSerial t) t

@@ -6,8 +6,8 @@ ghost use lib.ListN.{length, getD, set, take};
 ghost use Rattle.records.specs.Counters.{capacityOf, rightlyLent};
 ghost use Rattle.records.specs.Glyphs.{blank, change, setCluster, withCluster, withMask, flagged, flaggedUnless, key};
 ghost use Rattle.records.specs.Ranges.{clusters};
-ghost use Rattle.records.specs.View.{glyphs, Whole, seen, zeroGlyph, wordsAt, putWords};
-use super::Glyph;
+ghost use Rattle.records.specs.{View.glyphs, View.Whole, View.seen, inner.Stores.zeroGlyph, inner.Stores.infoAt, inner.Stores.putInfo};
+use super::GlyphInfo;
 
 // How many glyphs a slice holds.
 pub fn capacity(ws: &[u32]) -> usize
@@ -29,11 +29,11 @@ pub fn rightly_lent(first: &[u32], second: &[u32]) -> bool
     first.len() / 5 <= 1048576
 }
 
-fn read(ws: &[u32], at: usize) -> Glyph
+fn read(ws: &[u32], at: usize) -> GlyphInfo
     requires { ⌜ at + 4 < length (now ws) ⌝ }
-    ensures { λ r. ⌜ r ≡ wordsAt (now (ws .entry)) at ⌝ }
+    ensures { λ r. ⌜ r ≡ infoAt (now (ws .entry)) at ⌝ }
 {
-    Glyph {
+    GlyphInfo {
         glyph: ws[at],
         mask: ws[at + 1],
         cluster: ws[at + 2],
@@ -42,9 +42,9 @@ fn read(ws: &[u32], at: usize) -> Glyph
     }
 }
 
-fn write(ws: &mut [u32], at: usize, g: Glyph)
+fn write(ws: &mut [u32], at: usize, g: GlyphInfo)
     requires { ⌜ at + 4 < length (now ws) ⌝ }
-    ensures { λ r. ⌜ now (ws .exit) ≡ putWords (now (ws .entry)) at g ⌝ }
+    ensures { λ r. ⌜ now (ws .exit) ≡ putInfo (now (ws .entry)) at g ⌝ }
 {
     ws[at] = g.glyph;
     ws[at + 1] = g.mask;
@@ -53,14 +53,14 @@ fn write(ws: &mut [u32], at: usize, g: Glyph)
     ws[at + 4] = g.var1;
 }
 
-pub fn get(ws: &[u32], i: usize) -> Glyph
+pub fn get(ws: &[u32], i: usize) -> GlyphInfo
     requires { ⌜ i < length (glyphs (now ws)) ⌝ }
     ensures { λ r. ⌜ seen r ≡ getD (glyphs (now (ws .entry))) i zeroGlyph ⌝ }
 {
     read(ws, 5 * i)
 }
 
-pub fn put(ws: &mut [u32], i: usize, g: Glyph)
+pub fn put(ws: &mut [u32], i: usize, g: GlyphInfo)
     requires { ⌜ i < length (glyphs (now ws)) ⌝ }
     ensures { λ r. ⌜ glyphs (now (ws .exit)) ≡ set (glyphs (now (ws .entry))) i (seen g) ⌝ }
 {
@@ -68,10 +68,10 @@ pub fn put(ws: &mut [u32], i: usize, g: Glyph)
 }
 
 // A glyph with a number and a cluster, and 0 elsewhere.
-pub fn blank(number: u32, cluster: u32) -> Glyph
+pub fn blank(number: u32, cluster: u32) -> GlyphInfo
     ensures { λ r. ⌜ seen r ≡ record { glyph = number; info = blank cluster } ⌝ }
 {
-    Glyph {
+    GlyphInfo {
         glyph: number,
         mask: 0,
         cluster: cluster,

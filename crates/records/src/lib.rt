@@ -1,5 +1,7 @@
 // Records of the shaping buffer: the words of glyphs and positions, and the counters that no list shows.
 // Nobody above this crate knows where a word lies.
+
+// Below the calls, for the crates above: functions that ask for something, or speak of words and counters and not of an account.
 pub mod bytes;
 pub mod counters;
 pub mod glyphs;
@@ -20,7 +22,7 @@ pub struct DonePlace(pub usize);
 pub struct InputPlace(pub usize);
 
 // A glyph: five words.
-pub struct Glyph {
+pub struct GlyphInfo {
     pub glyph: u32,
     pub mask: u32,
     pub cluster: u32,

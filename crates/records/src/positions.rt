@@ -3,12 +3,12 @@ ghost use mathlib.Core.Path.{_≡_};
 ghost use Prim.Native.Nat.{_+_, _<_};
 ghost use lib.ListN.{length, getD, set};
 ghost use Rattle.records.specs.Glyphs.{zeroPosition};
-ghost use Rattle.records.specs.View.{placements, placeAt, putPlace};
+ghost use Rattle.records.specs.{View.positionsIn, inner.Stores.positionAt, inner.Stores.putPosition};
 use super::Position;
 
 fn read(ws: &[u32], at: usize) -> Position
     requires { ⌜ at + 4 < length (now ws) ⌝ }
-    ensures { λ r. ⌜ r ≡ placeAt (now (ws .entry)) at ⌝ }
+    ensures { λ r. ⌜ r ≡ positionAt (now (ws .entry)) at ⌝ }
 {
     Position {
         x_advance: ws[at],
@@ -21,7 +21,7 @@ fn read(ws: &[u32], at: usize) -> Position
 
 fn write(ws: &mut [u32], at: usize, p: Position)
     requires { ⌜ at + 4 < length (now ws) ⌝ }
-    ensures { λ r. ⌜ now (ws .exit) ≡ putPlace (now (ws .entry)) at p ⌝ }
+    ensures { λ r. ⌜ now (ws .exit) ≡ putPosition (now (ws .entry)) at p ⌝ }
 {
     ws[at] = p.x_advance;
     ws[at + 1] = p.y_advance;
@@ -31,15 +31,15 @@ fn write(ws: &mut [u32], at: usize, p: Position)
 }
 
 pub fn get(ws: &[u32], i: usize) -> Position
-    requires { ⌜ i < length (placements (now ws)) ⌝ }
-    ensures { λ r. ⌜ r ≡ getD (placements (now (ws .entry))) i zeroPosition ⌝ }
+    requires { ⌜ i < length (positionsIn (now ws)) ⌝ }
+    ensures { λ r. ⌜ r ≡ getD (positionsIn (now (ws .entry))) i zeroPosition ⌝ }
 {
     read(ws, 5 * i)
 }
 
 pub fn put(ws: &mut [u32], i: usize, p: Position)
-    requires { ⌜ i < length (placements (now ws)) ⌝ }
-    ensures { λ r. ⌜ placements (now (ws .exit)) ≡ set (placements (now (ws .entry))) i p ⌝ }
+    requires { ⌜ i < length (positionsIn (now ws)) ⌝ }
+    ensures { λ r. ⌜ positionsIn (now (ws .exit)) ≡ set (positionsIn (now (ws .entry))) i p ⌝ }
 {
     write(ws, 5 * i, p);
 }

@@ -4,7 +4,7 @@ use Prim.Native.Nat.{ℕ, suc, _+_, _≤_, _<_}
 use native.Mathlib.Omega.{arith}
 use lib.ListN.{length, length-drop, take, drop, getD}
 use lib.Seq.{take-suc, take-length, take-append-seam, getD-take, getD-drop, sets-eq}
-use Rattle.commands.specs.Lines.{Prints}
+use Rattle.commands.specs.Texts.{Prints}
 use Rattle.commands.proofs.Writes.{printed-length}
 use Rattle.replay.specs.Lines.{Finds, Compared, oneMore}
 use Rattle.replay.specs.declared.Found.{Found}

@@ -5,7 +5,7 @@ use native.Mathlib.Omega.{arith}
 use native.Mathlib.Numerals.{add-one}
 use lib.{Dec.ltb, ListN.length, ListN.getD, ListN.take, ListN.drop, ListN.set, ListN.length-set, ListN.drop-of-length-le, Seq.drop-cons, Seq.take-suc-set, Seq.take-length, Seq.length-take-le}
 use borrow.Author.Tests.{eq-eqb, ne-eqb, lt-ltb, le-ltb}
-use Rattle.commands.specs.Lines.{Prints}
+use Rattle.commands.specs.Texts.{Prints}
 use Rattle.replay.proofs.Bytes.{printed}
 use Rattle.replay.specs.Lines.{spaceAt, firstFields, known, theirs, Compared, Checked}
 use Rattle.replay.specs.declared.Tally.{Tally}

@@ -14,7 +14,7 @@ use denote.Struct.Steps.{spelt}
 use denote.Struct.Laws as LL
 use denote.Enum.Laws as EL
 use Rattle.records.specs.{Answer}
-use Rattle.lists.specs.declared.{Buffer.Buffer, Reply.Reply}
+use Rattle.lists.specs.{declared.Buffer.Buffer, declared.Reply.Reply}
 use Rattle.lists.proofs.Buffer as T
 use Rattle.lists.proofs.Buffer.Laws as T′
 use Rattle.lists.proofs.Reply as S

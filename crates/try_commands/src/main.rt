@@ -55,6 +55,19 @@ fn byte_at(list: &[u8], at: usize) -> u8
     }
 }
 
+fn print_answer(byte: u8, reply: Reply) {
+    let answer = reply.answer;
+    let mut out = [0u8; 128];
+    let n = commands::lines::answer_line(&mut out, 0, byte, answer);
+    printing::print(&out, n);
+}
+
+fn print_report(b: Buffer, first: &[u32], second: &[u32]) {
+    let mut out = io::buffer();
+    let n = commands::texts::report(&mut out, b, first, second);
+    printing::print(&out, n);
+}
+
 // The commands of a list, each with its answer printed.
 fn play(b: Buffer, first: &mut [u32], second: &mut [u32], list: &[u8]) -> Buffer {
     let mut b = b;
@@ -64,7 +77,7 @@ fn play(b: Buffer, first: &mut [u32], second: &mut [u32], list: &[u8]) -> Buffer
         let byte = byte_at(list, at);
         let found = taken.reading;
         let reply = carry_out(b, first, second, found);
-        printing::answer(byte, reply);
+        print_answer(byte, reply);
         b = reply.buffer;
         at = taken.next;
     }
@@ -101,5 +114,5 @@ fn main() {
         \x04",
     );
     let b = play(b, &mut first, &mut second, b"\x01E");
-    printing::report(b, &first, &second);
+    print_report(b, &first, &second);
 }

@@ -3,7 +3,7 @@ ghost use mathlib.Core.Path.{_≡_};
 ghost use lib.Dec.{leb};
 ghost use lib.ListN.{length};
 ghost use Rattle.commands.specs.Reading.{Reads};
-ghost use Rattle.commands.specs.Scripts.{Takes};
+ghost use Rattle.commands.specs.Reading.{Takes};
 use commands::Reading;
 use commands::Script;
 use commands::Taken;

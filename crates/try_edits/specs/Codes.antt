@@ -2,7 +2,7 @@
 use mathlib.Core.{Bool.true, Bool.false}
 use Prim.Native.Nat.{ℕ, _+_}
 use Rattle.records.specs.{Plain, Answers.Said, Answers.ok, Answers.okWith, Answers.no}
-use Rattle.lists.specs.declared.{Buffer.Buffer}
+use Rattle.lists.specs.declared.Buffer.{Buffer}
 
 -- the value; 2 where there is none; 2 and the number of a refusal
 unfoldable pub codeOf : Said → ℕ

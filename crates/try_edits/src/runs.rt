@@ -1,10 +1,10 @@
 // Runs of six glyphs, 41 to 46, whose other words tell them apart.
 use lists::Buffer;
-use records::Glyph;
+use records::GlyphInfo;
 
 // The mask is the number too: its low three bits differ from glyph to glyph, and those above are set.
-pub(crate) fn glyph(number: u32, cluster: u32) -> Glyph {
-    Glyph {
+pub(crate) fn glyph(number: u32, cluster: u32) -> GlyphInfo {
+    GlyphInfo {
         glyph: number,
         mask: number,
         cluster: cluster,
@@ -14,7 +14,7 @@ pub(crate) fn glyph(number: u32, cluster: u32) -> Glyph {
 }
 
 // Puts a glyph at a place, if the slice has it.
-fn put_at(ws: &mut [u32], at: usize, g: Glyph) {
+fn put_at(ws: &mut [u32], at: usize, g: GlyphInfo) {
     if at < records::glyphs::capacity(ws) {
         records::glyphs::put(ws, at, g);
     }

@@ -2,7 +2,7 @@
 use lists::Buffer;
 use lists::Reply;
 use records::Answer;
-use records::Glyph;
+use records::GlyphInfo;
 use records::Position;
 
 fn field(n: u64) {
@@ -54,7 +54,7 @@ pub(crate) fn shown(call: &[u8], r: Reply) -> Buffer {
 }
 
 // Glyph, cluster, mask, var0, var1.
-fn glyph_line(list: &[u8], g: Glyph) {
+fn glyph_line(list: &[u8], g: GlyphInfo) {
     io::write_all(1, list);
     field(g.glyph as u64);
     field(g.cluster as u64);

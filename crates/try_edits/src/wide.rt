@@ -17,7 +17,7 @@ use lists::Buffer;
 use lists::Reply;
 use lists::cursor;
 use records::DonePlace;
-use records::Glyph;
+use records::GlyphInfo;
 use records::InputPlace;
 use records::Refusal;
 
@@ -115,7 +115,7 @@ fn make(b: Buffer, first: &mut [u32], second: &mut [u32], ones: u8, o: Operands)
         b'8' => cursor::next_glyphs(b, first, second, o.v as usize),
         b'9' => cursor::skip_glyph(b, first, second),
         b'C' => {
-            let g = Glyph {
+            let g = GlyphInfo {
                 glyph: o.v,
                 mask: o.w,
                 cluster: o.x,

@@ -5,7 +5,7 @@ use lists::Buffer;
 use lists::Reply;
 use records::Answer;
 use records::DonePlace;
-use records::Glyph;
+use records::GlyphInfo;
 
 fn field(n: u64) {
     io::write_all(1, b" ");
@@ -38,7 +38,7 @@ fn shown(r: Reply) -> Buffer {
     b
 }
 
-fn print_glyph(g: Glyph) {
+fn print_glyph(g: GlyphInfo) {
     field(g.glyph as u64);
     field(g.mask as u64);
     field(g.cluster as u64);
@@ -54,8 +54,8 @@ fn print_glyphs(ws: &[u32]) {
     io::write_all(1, b"\n");
 }
 
-fn glyph(number: u32, cluster: u32) -> Glyph {
-    Glyph {
+fn glyph(number: u32, cluster: u32) -> GlyphInfo {
+    GlyphInfo {
         glyph: number,
         mask: 0,
         cluster: cluster,

@@ -1,4 +1,4 @@
-use Rattle.commands.specs.Bytes.{forms, at, input, done}
+use Rattle.commands.specs.Calls.{forms, operand, inputPlace, donePlace}
 use Rattle.commands.specs.Calls.{perform}
 use Rattle.commands.specs.Reading.{operandsOf, count, made, ordered}
 use Rattle.commands.proofs.CallLaws.{last-byte, arm-call, wordedAs}
@@ -10,7 +10,7 @@ replace-glyphs-requires : tie.Need-replace-glyphs-requires
 replace-glyphs-requires c κs = c .before .before .before .before .before .before .pre .1 (c .before .before .match .keys15)
 
 pub call-spec : {M : Type 1} → statement M
-unfolding wordedAs ordered made forms operandsOf count at input done perform
+unfolding wordedAs ordered made forms operandsOf count operand inputPlace donePlace perform
 call-spec =
     tie.close
     (tie.spec (λ c κs. search needs) (λ c κs. search needs) (λ c. search needs)

@@ -1,5 +1,5 @@
 use native.Mathlib.Omega.{arith}
-use Rattle.commands.specs.Bytes.{forms}
+use Rattle.commands.specs.Calls.{forms}
 use Rattle.commands.specs.Reading.{operandsOf, count}
 use Rattle.commands.proofs.Readings.{past, no-command}
 use Rattle.commands.proofs.reader.operands_of.Statement.{statement}

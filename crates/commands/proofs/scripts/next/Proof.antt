@@ -22,7 +22,7 @@ use denote.Triple.Walked.{says, Stays, stay-none, walkOf, goes-none, Walks, ends
 use denote.Enum.Laws as EL
 use denote.Struct.Laws as LL
 use Rattle.commands.specs.Reading.{Reads}
-use Rattle.commands.specs.declared.{Script.Script, Reading.Reading}
+use Rattle.commands.specs.{declared.Script.Script, declared.Reading.Reading}
 use Rattle.commands.proofs.Script as T
 use Rattle.commands.proofs.Script.Laws as T′
 use Rattle.commands.proofs.Reading as S

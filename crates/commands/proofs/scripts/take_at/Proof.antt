@@ -1,5 +1,5 @@
 use mathlib.Core.Path.{refl}
-use Rattle.commands.specs.Scripts.{placeAfter}
+use Rattle.commands.specs.Reading.{placeAfter}
 use borrow.Author.Needs.{needs}
 use Rattle.commands.proofs.scripts.take_at.Statement.{statement}
 use Rattle.commands.proofs.scripts.take_at.Tie as tie

@@ -20,8 +20,8 @@ use denote.Triple.{Statement.Contract, Statement.Triple, Call.calls-at, Clauses.
 use denote.Triple.Walked.{says, Stays, stay-ref, walkOf, goes-ref, Walks, ends-at, walked, walk-meets}
 use denote.Enum.Laws as EL
 use denote.Struct.Laws as LL
-use Rattle.commands.specs.Scripts.{Takes}
-use Rattle.commands.specs.declared.{Script.Script, Taken.Taken, Reading.Reading}
+use Rattle.commands.specs.Reading.{Takes}
+use Rattle.commands.specs.{declared.Script.Script, declared.Taken.Taken, declared.Reading.Reading}
 use Rattle.commands.proofs.Script as T
 use Rattle.commands.proofs.Script.Laws as T′
 use Rattle.commands.proofs.Taken as S

@@ -1,4 +1,4 @@
-use Rattle.edits.specs.{Flags.number, Flags.tooFar, Bounds.inputBound}
+use Rattle.edits.specs.{Flags.placeNumber, Flags.tooFar, Flags.inputBound}
 use Rattle.edits.proofs.BoundLaws.{too-far}
 use native.Mathlib.Omega.{arith}
 use borrow.Author.Needs.{needs}
@@ -6,11 +6,11 @@ use Rattle.edits.proofs.bounds.ends_too_far.Statement.{statement}
 use Rattle.edits.proofs.bounds.ends_too_far.Tie as tie
 
 returns : tie.Need-returns
-unfolding tooFar number inputBound
+unfolding tooFar placeNumber inputBound
 returns c = search needs
 
 returns-2 : tie.Need-returns-2
-unfolding number inputBound
+unfolding placeNumber inputBound
 returns-2 c = let at : tie.After-end = search in rw (at .end .given .1) (too-far _ _ _ (omega arith) (omega arith) (omega arith) (c .wrapping-sub-usize .ensures))
 
 pub ends-too-far-spec : {M : Type 1} → statement M

@@ -1,5 +1,5 @@
 use mathlib.Core.Path.{refl}
-use Rattle.edits.specs.FlagTable.{flagTable}
+use Rattle.edits.specs.Groups.{flagTable}
 use borrow.Author.Needs.{needs}
 use Rattle.edits.proofs.propagating.propagate_run.Statement.{statement}
 use Rattle.edits.proofs.propagating.propagate_run.Tie as tie

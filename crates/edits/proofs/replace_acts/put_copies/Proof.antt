@@ -3,7 +3,7 @@ use Prim.Native.Nat.{_-_}
 use native.Mathlib.Omega.{arith}
 use Rattle.records.specs.View.{seen}
 use Rattle.records.proofs.View.{glyphs-fit}
-use Rattle.edits.specs.Acts.{given}
+use Rattle.edits.specs.inner.Acts.{given}
 use Rattle.edits.proofs.Acting.{Putting, putting}
 use borrow.Author.Needs.{needs}
 use Rattle.edits.proofs.replace_acts.put_copies.Statement.{statement}

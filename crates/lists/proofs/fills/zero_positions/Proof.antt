@@ -2,14 +2,14 @@
 use Prim.Native.Nat.{_-_}
 use native.Mathlib.Omega.{arith}
 use Rattle.records.specs.Glyphs.{zeroPosition}
-use Rattle.records.specs.View.{placements}
+use Rattle.records.specs.View.{positionsIn}
 use Rattle.lists.proofs.Filling.{Filling, filling-done, filling}
 use borrow.Author.Needs.{needs}
 use Rattle.lists.proofs.fills.zero_positions.Statement.{statement}
 use Rattle.lists.proofs.fills.zero_positions.Tie as tie
 
 abbrev Inv-loop : tie.InvT-loop
-Inv-loop ws₀ s e i₀ ws i = Filling placements zeroPosition ws₀ s e ws i
+Inv-loop ws₀ s e i₀ ws i = Filling positionsIn zeroPosition ws₀ s e ws i
 
 abbrev μ-loop : tie.MeasureT-loop
 μ-loop ws₀ s e i₀ ws i = e - i

@@ -25,7 +25,7 @@ use denote.Triple.{Entry.onEntry, Spec.Meets, Spec.tripleOf, Statement.Contract,
 use denote.Triple.Walked.{says, Stays, stay-ref, gave-slice, walkOf, goes-ref, goes-gave-slice, Walks, ends-at, walked, walk-meets}
 use Rattle.records.specs.{Answer}
 use Rattle.lists.specs.Contract.{Meets as MeetsCall}
-use Rattle.lists.specs.declared.{Buffer.Buffer, Reply.Reply}
+use Rattle.lists.specs.{declared.Buffer.Buffer, declared.Reply.Reply}
 use Rattle.lists.specs.Cursor.{sync}
 use Rattle.lists.proofs.Buffer as T
 use Rattle.lists.proofs.Buffer.Laws as T′

@@ -1,6 +1,6 @@
 use mathlib.Core.Path.{_≡_}
 use lib.ListN.{length}
-use Rattle.records.specs.View.{glyphs, zeroGlyph}
+use Rattle.records.specs.{View.glyphs, inner.Stores.zeroGlyph}
 use Rattle.records.proofs.View.{glyphs-fit}
 use Rattle.lists.proofs.Turns.{Turning, turning-more, Halved, halved-room, halved-more, turning}
 use native.Mathlib.Omega.{arith}

@@ -1,7 +1,7 @@
 use mathlib.Core.Path.{_≡_}
 use lib.ListN.{length}
-use Rattle.records.specs.{Glyphs.zeroPosition, View.placements}
-use Rattle.records.proofs.View.{placements-fit}
+use Rattle.records.specs.{Glyphs.zeroPosition, View.positionsIn}
+use Rattle.records.proofs.View.{positions-fit}
 use Rattle.lists.proofs.Turns.{Turning, turning-more, Halved, halved-room, halved-more, turning}
 use native.Mathlib.Omega.{arith}
 use borrow.Author.Needs.{needs}
@@ -9,7 +9,7 @@ use Rattle.lists.proofs.reversals.reverse_positions.Statement.{statemen
 use Rattle.lists.proofs.reversals.reverse_positions.Tie as tie
 
 abbrev Inv-loop : tie.InvT-loop
-Inv-loop ws₀ s e i₀ j₀ k₀ ws i j k = (Turning (placements ws₀) s e (placements ws) i j) × (length ws ≡ length ws₀) × (Halved i j k)
+Inv-loop ws₀ s e i₀ j₀ k₀ ws i j k = (Turning (positionsIn ws₀) s e (positionsIn ws) i j) × (length ws ≡ length ws₀) × (Halved i j k)
 
 abbrev μ-loop : tie.MeasureT-loop
 μ-loop ws₀ s e i₀ j₀ k₀ ws i j k = k
@@ -27,7 +27,7 @@ swap-positions-requires : tie.Need-swap-positions-requires Inv-loop μ-loop
 swap-positions-requires c κs = search turning
 
 add-i : tie.Need-add-i Inv-loop μ-loop
-add-i c = let at : tie.At-loop Inv-loop μ-loop = search in omega (arith, at .loop .inv .0 .fits, at .loop .inv .2 .most, placements-fit (at .loop .ws))
+add-i c = let at : tie.At-loop Inv-loop μ-loop = search in omega (arith, at .loop .inv .0 .fits, at .loop .inv .2 .most, positions-fit (at .loop .ws))
 
 sub-k-2 : tie.Need-sub-k-2 Inv-loop μ-loop
 sub-k-2 c = omega arith

@@ -1,5 +1,5 @@
 use mathlib.Core.Path.{refl}
-use Rattle.lists.specs.States.{atPlaces}
+use Rattle.lists.specs.inner.States.{atPlaces}
 use Rattle.lists.proofs.state.at_places.Statement.{statement}
 use Rattle.lists.proofs.state.at_places.Tie as tie
 

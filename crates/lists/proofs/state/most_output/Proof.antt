@@ -1,4 +1,4 @@
-use Rattle.lists.specs.States.{mostOutput}
+use Rattle.lists.specs.inner.States.{mostOutput}
 use borrow.Author.Needs.{needs}
 use Rattle.lists.proofs.state.most_output.Statement.{statement}
 use Rattle.lists.proofs.state.most_output.Tie as tie

@@ -1,5 +1,5 @@
 use mathlib.Core.Path.{refl}
-use Rattle.lists.specs.States.{openedBuffer}
+use Rattle.lists.specs.inner.States.{openedBuffer}
 use Rattle.lists.proofs.state.opened.Statement.{statement}
 use Rattle.lists.proofs.state.opened.Tie as tie
 

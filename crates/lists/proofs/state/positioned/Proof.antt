@@ -1,5 +1,5 @@
 use mathlib.Core.Path.{refl}
-use Rattle.lists.specs.States.{positionedBuffer}
+use Rattle.lists.specs.inner.States.{positionedBuffer}
 use Rattle.lists.proofs.state.positioned.Statement.{statement}
 use Rattle.lists.proofs.state.positioned.Tie as tie
 

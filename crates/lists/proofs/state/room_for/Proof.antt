@@ -1,5 +1,5 @@
 use borrow.Author.Tests.{le-leb, lt-leb, le-ltb, lt-ltb}
-use Rattle.lists.specs.State.{roomFor}
+use Rattle.lists.specs.inner.Held.{roomFor}
 use borrow.Author.Needs.{needs}
 use Rattle.lists.proofs.state.room_for.Statement.{statement}
 use Rattle.lists.proofs.state.room_for.Tie as tie

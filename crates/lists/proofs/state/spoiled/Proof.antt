@@ -1,5 +1,5 @@
 use mathlib.Core.Path.{refl}
-use Rattle.lists.specs.States.{spoiledBuffer}
+use Rattle.lists.specs.inner.States.{spoiledBuffer}
 use Rattle.lists.proofs.state.spoiled.Statement.{statement}
 use Rattle.lists.proofs.state.spoiled.Tie as tie
 

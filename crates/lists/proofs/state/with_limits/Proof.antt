@@ -1,5 +1,5 @@
 use mathlib.Core.Path.{refl}
-use Rattle.lists.specs.States.{withLimitsOf}
+use Rattle.lists.specs.inner.States.{withLimitsOf}
 use Rattle.lists.proofs.state.with_limits.Statement.{statement}
 use Rattle.lists.proofs.state.with_limits.Tie as tie
 

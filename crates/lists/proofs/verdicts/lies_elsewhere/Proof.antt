@@ -1,4 +1,4 @@
-use Rattle.lists.specs.Verdicts.{liesElsewhere}
+use Rattle.lists.specs.inner.Verdicts.{liesElsewhere}
 use Rattle.lists.proofs.verdicts.lies_elsewhere.Statement.{statement}
 use Rattle.lists.proofs.verdicts.lies_elsewhere.Tie as tie
 

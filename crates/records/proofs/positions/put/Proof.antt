@@ -1,5 +1,5 @@
 use native.Mathlib.Omega.{arith}
-use Rattle.records.proofs.View.{place-room, put-placements}
+use Rattle.records.proofs.View.{place-room, put-positions}
 use borrow.Author.Needs.{needs}
 use Rattle.records.proofs.positions.put.Statement.{statement}
 use Rattle.records.proofs.positions.put.Tie as tie
@@ -11,7 +11,7 @@ write-requires : tie.Need-write-requires
 write-requires c κs = search (place-room, needs)
 
 returns : tie.Need-returns
-returns c = search put-placements
+returns c = search put-positions
 
 pub put-spec : {M : Type 1} → statement M
 put-spec = tie.close (tie.spec mul-write write-requires (λ c. search needs) returns)

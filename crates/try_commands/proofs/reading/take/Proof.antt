@@ -19,7 +19,7 @@ use denote.Struct.Laws as LL
 use denote.Enum.Laws as EL
 use denote.Triple.{Statement.Contract, Statement.Triple, Call.calls-at, Entry.onEntry, Spec.Meets, Spec.tripleOf, Table.entered, Table.cited, Clauses.ensured, Clauses.lasts}
 use denote.Triple.Walked.{says, Stays, stay-none, stay-none-slice, walkOf, goes-none, goes-none-slice, Walks, ends-at, walked, walk-meets}
-use Rattle.commands.specs.{declared.Script.Script, declared.Taken.Taken, declared.Reading.Reading, Scripts.Takes}
+use Rattle.commands.specs.{declared.Script.Script, declared.Taken.Taken, declared.Reading.Reading, Reading.Takes}
 use Rattle.commands.proofs.Script as T
 use Rattle.commands.proofs.Script.Laws as T′
 use Rattle.commands.proofs.Taken as S

@@ -1,11 +1,11 @@
-use Rattle.records.proofs.View.{length-placements}
+use Rattle.records.proofs.View.{length-positions}
 use borrow.Author.Needs.{needs}
 use Rattle.records.proofs.Tests.{tested}
 use Rattle.try_edits.proofs.show.position_at.Statement.{statement}
 use Rattle.try_edits.proofs.show.position_at.Tie as tie
 
 get-requires : tie.Need-get-requires
-get-requires c κs = search (length-placements, tested, needs)
+get-requires c κs = search (length-positions, tested, needs)
 
 pub position-at-spec : {M : Type 1} → statement M
 position-at-spec =

@@ -1,0 +1,31 @@
+// The desk program: commands from standard input as the exam program takes them, the answer to each, and then the layout
+// record of the screen: "lengths, clusters, flags and counters, with the glyph column removed". It allocates nothing; what it
+// holds, about 660 KiB, stands on its stack.
+ghost use mathlib.Core.Path.{_≡_};
+ghost use lib.ListN.{length};
+ghost use Rattle.commands.specs.inner.Programs.{Holds};
+ghost use Rattle.commands.specs.Texts.{layoutRecord, examRun, lastAccount};
+use commands::texts;
+
+// The answers to a string's commands, printed, and then the layout record of what they leave, at the start of a room. Gives its length.
+fn answer_all(first: &mut [u32], second: &mut [u32], script: &[u8], out: &mut [u8]) -> usize
+    requires { ⌜ (10240 ≡ length (now first)) × (10240 ≡ length (now second)) × (331938 ≡ length (now out)) ⌝ }
+    ensures { λ r. ⌜ Holds (layoutRecord (lastAccount (examRun 10240 (now (script .entry))))) r (now (out .exit)) ⌝ }
+{
+    let ran = printing::play_fresh(first, second, script, out);
+    texts::layout_record(out, ran.reply.buffer, first, second)
+}
+
+fn main() {
+    let mut script = printing::script_room();
+    let n = io::read_full(0, &mut script);
+    if printing::is_too_long(n) {
+        printing::print_too_long();
+        return;
+    }
+    let mut first = printing::words();
+    let mut second = printing::words();
+    let mut out = printing::text_room();
+    let m = answer_all(&mut first, &mut second, &script[..n], &mut out);
+    printing::print(&out, m);
+}

@@ -1,0 +1,16 @@
+pub mod Holding
+pub mod Acts
+pub mod BoundNumbers
+pub mod Plans
+pub mod MergeActs
+pub mod Puts
+pub mod Replaces
+pub mod Deletes
+pub mod Marks
+pub mod Wholes
+pub mod Charges
+pub mod Fills
+pub mod Relabels
+pub mod Reversals
+pub mod Sorts
+pub mod Propagating
