@@ -8,7 +8,7 @@ mod counting;
 mod digits;
 pub mod lines;
 pub mod playing;
-mod reader;
+pub mod reader;
 pub mod reports;
 pub mod runs;
 pub mod scripts;

@@ -123,7 +123,7 @@ fn read_listed(script: &[u8], byte: u8, from: usize) -> Reading
 }
 
 // The command at a place; past the end there is none.
-pub(crate) fn read_command(script: &[u8], at: usize) -> Reading
+pub fn read_command(script: &[u8], at: usize) -> Reading
     ensures { λ r. ⌜ Reads (now (script .entry)) at r ⌝ }
 {
     if script.len() <= at {
