@@ -132,15 +132,20 @@ pub fn of(capacity: usize, bytes: &[u8]) -> Vec<(u8, Vec<Thing>)> {
     all
 }
 
-/// Every thing that the tables ask for.
-fn asked() -> Seen {
+/// Levels, 4 standing for those above 3, and wants for which harfrust is the measure: at level 3 it has no bit 2 (N11).
+pub fn measured() -> impl Iterator<Item = (u32, u32)> {
+    (0..40).map(|n| (n / 8, n % 8)).filter(|&(level, wants)| level != 3 || wants < 4)
+}
+
+/// Every thing that the tables ask for of the lists for which harfrust is the measure.
+pub fn asked() -> Seen {
     let mut asked = Seen::new();
     for byte in 0..39u8 {
         let valued = VALUES.iter().find(|v| v.0 == byte);
         asked.extend(valued.map_or(vec![Thing::Done], |v| v.1.iter().map(|&n| Thing::Value(n)).collect()).iter().map(|&t| (byte, t)));
         asked.extend(REFUSALS[byte as usize].iter().map(|&n| (byte, Thing::No(n))));
         asked.extend((0..4 * OPERANDS[byte as usize]).map(|n| (byte, Thing::Cut(n))));
-        asked.extend((0..20).map(|n| (byte, Thing::At(n / 4, n % 4))));
+        asked.extend(measured().map(|(level, wants)| (byte, Thing::At(level, wants))));
     }
     asked.extend((8..16).map(|n| (0x0E, Thing::Cut(n))));
     asked.extend(WITH_OUTPUT.iter().flat_map(|&b| [(b, Thing::In(1)), (b, Thing::In(3))]));
@@ -150,9 +155,14 @@ fn asked() -> Seen {
     asked
 }
 
+/// What is asked of the others: every command accepted with each of their wants.
+pub fn asked_of_level_3() -> Seen {
+    (0..39).flat_map(|byte| (4..8).map(move |wants| (byte, Thing::At(3, wants)))).collect()
+}
+
 /// Fails where a table asks for something that no list shows, or where a refusal came that the table does not know.
-pub fn check(seen: &Seen) {
-    let missing: Vec<_> = asked().difference(seen).copied().collect();
+pub fn check(seen: &Seen, asked: &Seen) {
+    let missing: Vec<_> = asked.difference(seen).copied().collect();
     assert!(missing.is_empty(), "not shown by any list: {missing:X?}");
     for (byte, thing) in seen {
         if let Thing::No(n) = thing {

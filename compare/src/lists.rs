@@ -1,8 +1,7 @@
-//! Lists of commands from a seed, their comparison, and the shrinking of the first that differs.
-use crate::commands::{bytes_of, Command, OPEN, OPERANDS};
-use crate::known;
-use crate::theirs::{self, Theirs};
-use std::io::Read;
+//! Lists of commands from a seed.
+use crate::buffer::Buffer;
+use crate::commands::{searches, Command, OPEN, OPERANDS};
+use crate::theirs::Theirs;
 
 /// xorshift64*: the same lists from the same seed, everywhere.
 pub struct Random(u64);
@@ -37,8 +36,11 @@ fn place(r: &mut Random, top: usize) -> u32 {
     }
 }
 
-/// Two places in order, most of the time.
+/// Two places in order, most of the time; now and then all there is.
 fn range(r: &mut Random, low: usize, top: usize) -> (u32, u32) {
+    if r.below(5) == 0 {
+        return (low as u32, top as u32);
+    }
     let (a, b) = (place(r, top), place(r, top));
     let low = if r.below(8) == 0 { 0 } else { low as u32 };
     if r.below(10) == 0 { (a, b) } else { (a.min(b).max(low), a.max(b).max(low)) }
@@ -72,11 +74,35 @@ fn slot(r: &mut Random) -> u32 {
     if r.below(20) == 0 { 2 } else { r.below(2) as u32 }
 }
 
-fn operands(r: &mut Random, byte: u8, t: &Theirs) -> Vec<u32> {
-    let b = &t.buffer;
+/// The range of a call that has no other operands.
+fn ranged(r: &mut Random, byte: u8, b: &Buffer) -> (u32, u32) {
     let cursor = if b.have_output { b.idx } else { 0 };
     match byte {
-        0x00 => vec![r.below(5) as u32, r.below(4) as u32 + u32::from(r.below(20) == 0)],
+        0x12 | 0x14 => range(r, 0, b.out_len),
+        0x15..=0x17 => {
+            let wide = range(r, cursor, b.len);
+            bounds(r, wide)
+        }
+        0x18 | 0x19 => {
+            let places = (place(r, b.out_len), place(r, b.len).max(b.idx as u32));
+            bounds(r, places)
+        }
+        _ => range(r, cursor, b.len),
+    }
+}
+
+/// A level and wants; where level 3 searches, half of the time that once more.
+fn level_and_wants(r: &mut Random, t: &Theirs) -> Vec<u32> {
+    if t.searching && r.below(2) == 0 {
+        return vec![3, 4 + r.below(4) as u32];
+    }
+    vec![r.below(5) as u32, if r.below(20) == 0 { 8 } else { r.below(8) as u32 }]
+}
+
+fn operands(r: &mut Random, byte: u8, t: &Theirs) -> Vec<u32> {
+    let b = &t.buffer;
+    match byte {
+        0x00 => level_and_wants(r, t),
         0x01 => vec![glyph(r), cluster(r)],
         0x02 => vec![if r.below(12) == 0 { r.pick(&[2048, 2049, 1_073_741_823, 1_073_741_824]) } else { r.below(b.len + 4) as u32 }],
         0x06 => vec![place(r, b.len), r.next() as u32, r.below(9) as u32, r.next() as u32, r.below(3) as u32],
@@ -85,28 +111,14 @@ fn operands(r: &mut Random, byte: u8, t: &Theirs) -> Vec<u32> {
         0x0C => vec![glyph(r), mask(r), cluster(r), var(r), var(r)],
         0x0E => {
             let out = if r.below(40) == 0 { 30 } else { r.below(4) };
-            let mut words = vec![place(r, (b.len - b.idx).min(3)), out as u32];
+            let mut words = vec![place(r, (b.len - b.idx).min(4)), out as u32];
             words.extend((0..out).map(|_| glyph(r)));
             words
         }
         0x10 if !b.have_output && r.below(2) == 0 => vec![0],
         0x10 => vec![place(r, if b.have_output { b.out_len + b.len - b.idx } else { b.len })],
-        0x11 | 0x13 | 0x1C => {
-            let (s, e) = range(r, cursor, b.len);
-            vec![s, e]
-        }
-        0x12 | 0x14 => {
-            let (s, e) = range(r, 0, b.out_len);
-            vec![s, e]
-        }
-        0x15..=0x17 => {
-            let wide = range(r, cursor, b.len);
-            let (s, e) = bounds(r, wide);
-            vec![s, e]
-        }
-        0x18 | 0x19 => {
-            let places = (place(r, b.out_len), place(r, b.len).max(b.idx as u32));
-            let (s, e) = bounds(r, places);
+        0x11..=0x19 | 0x1C => {
+            let (s, e) = ranged(r, byte, b);
             vec![s, e]
         }
         0x1A => {
@@ -195,22 +207,52 @@ fn nearly_drained(r: &mut Random) -> Vec<Command> {
     commands
 }
 
+/// Where the lists of a seed start: at any level and wants, or where level 3 searches (N11).
+#[derive(Clone, Copy, PartialEq)]
+pub enum Start {
+    Anywhere,
+    Searching,
+}
+
+impl Start {
+    fn command(self, r: &mut Random) -> Command {
+        match self {
+            Start::Anywhere => Command::new(0, &[r.below(2) as u32 * r.below(5) as u32, r.below(8) as u32]),
+            Start::Searching => Command::new(0, &[3, 4 + r.below(4) as u32]),
+        }
+    }
+
+    /// The most commands behind the start; where marks are looked at, and pile up, fewer.
+    pub fn longest(self) -> usize {
+        match self {
+            Start::Anywhere => 200,
+            Start::Searching => 60,
+        }
+    }
+
+    /// Whether these bytes are one of these lists: those that start anywhere are for harfrust as it is.
+    pub fn takes(self, bytes: &[u8]) -> bool {
+        searches(bytes) == (self == Start::Searching)
+    }
+}
+
 /// How a list starts.
-fn start(r: &mut Random, capacity: usize) -> Vec<Command> {
-    let mut commands = vec![Command::new(0, &[r.below(2) as u32 * r.below(5) as u32, r.below(4) as u32])];
+fn start(r: &mut Random, capacity: usize, first: Start) -> Vec<Command> {
+    let mut commands = vec![first.command(r)];
     match r.below(24) {
         0 if capacity > 2000 => commands.extend(nearly_drained(r)),
         1 => commands.extend((0..r.below(30)).map(|_| Command::new(0x26, &[]))),
         2..=9 => commands.extend(keyed(r, capacity)),
+        _ if first == Start::Searching => commands.extend(keyed(r, capacity)),
         _ => {}
     }
     commands
 }
 
 /// A list that is made as harfrust goes along with it.
-pub fn list(r: &mut Random, capacity: usize, length: usize) -> Vec<Command> {
+pub fn list(r: &mut Random, capacity: usize, first: Start, length: usize) -> Vec<Command> {
     let mut theirs = Theirs::new(capacity, 0, 0);
-    let mut commands = start(r, capacity);
+    let mut commands = start(r, capacity, first);
     commands.iter().for_each(|c| {
         let _ = theirs.call(c);
     });
@@ -221,81 +263,4 @@ pub fn list(r: &mut Random, capacity: usize, length: usize) -> Vec<Command> {
         commands.push(command);
     }
     commands
-}
-
-/// Leaves out commands as long as the two sides still differ.
-fn shrink(mut commands: Vec<Command>, differ: &dyn Fn(&[Command]) -> bool) -> Vec<Command> {
-    let mut width = commands.len() / 2;
-    while width > 0 {
-        let mut at = 0;
-        while at + width <= commands.len() {
-            let mut fewer = commands.clone();
-            fewer.drain(at..at + width);
-            if differ(&fewer) {
-                commands = fewer;
-            } else {
-                at += width;
-            }
-        }
-        width /= 2;
-    }
-    commands
-}
-
-/// The exam program's capacity.
-pub const CAPACITY: usize = 2048;
-
-/// The list of a number, of those that a seed gives.
-pub fn seeded(seed: u64, number: u64, capacity: usize) -> Vec<Command> {
-    let mut r = Random::new(seed.wrapping_add(number));
-    let length = 1 + r.below(200);
-    list(&mut r, capacity, length)
-}
-
-/// The bytes of a list: now and then cut off, or with a byte behind them that is no command.
-pub fn bytes_of_list(commands: &[Command], number: u64) -> Vec<u8> {
-    let mut bytes = bytes_of(commands);
-    match number % 8 {
-        0 => bytes.truncate(bytes.len().saturating_sub(1 + (number / 8 % 8) as usize)),
-        1 => bytes.push(0x27 + (number / 8 % 217) as u8),
-        _ => {}
-    }
-    bytes
-}
-
-/// compare PROGRAM SEED COMMANDS: runs lists until that many commands agreed, in all that harfrust has of the lines.
-pub fn compare(arguments: &[String]) {
-    let [program, seed, goal, more @ ..] = arguments else { panic!("compare PROGRAM SEED COMMANDS [ARGUMENTS OF PROGRAM]") };
-    let (seed, goal): (u64, usize) = (seed.parse().unwrap(), goal.parse().unwrap());
-    let both = |l: &[Command], number: u64| {
-        let bytes = bytes_of_list(l, number);
-        (theirs::run(CAPACITY, &bytes), known::theirs(&crate::ours::run(program, more, &bytes)))
-    };
-    let (mut lists, mut commands) = (0, 0);
-    while commands < goal {
-        let made = seeded(seed, lists, CAPACITY);
-        let differ = |l: &[Command]| {
-            let (theirs, ours) = both(l, lists);
-            theirs != ours
-        };
-        if differ(&made) {
-            let small = shrink(made, &differ);
-            println!("differ, list {lists} of seed {seed}:");
-            small.iter().for_each(|c| println!("{}", c.text()));
-            let (theirs, ours) = both(&small, lists);
-            println!("-- bytes {:02X?}\n-- harfrust\n{theirs}-- ours\n{ours}", bytes_of_list(&small, lists));
-            std::process::exit(1);
-        }
-        lists += 1;
-        commands += made.len();
-    }
-    println!("{lists} lists, {commands} commands, no difference");
-}
-
-/// run [CAPACITY]: what harfrust prints for the bytes on standard input.
-pub fn run_one(arguments: &[String]) {
-    let capacity = arguments.first().map_or(CAPACITY, |a| a.parse().unwrap());
-    let mut bytes = Vec::new();
-    std::io::stdin().read_to_end(&mut bytes).unwrap();
-    print!("{}", theirs::run(capacity, &bytes));
 }

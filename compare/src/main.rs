@@ -52,11 +52,16 @@ mod shape {
 }
 
 mod commands;
+mod comparing;
 mod coverage;
 mod known;
+mod level_3;
 mod lists;
 mod ours;
 mod play;
+mod printing;
+mod refusals;
+mod seeded;
 mod theirs;
 mod vectors;
 
@@ -65,13 +70,16 @@ fn main() {
     let word = arguments.next().unwrap_or_default();
     let rest: Vec<String> = arguments.collect();
     match word.as_str() {
-        "compare" => lists::compare(&rest),
+        "compare" => comparing::compare(lists::Start::Anywhere, &rest),
+        "searching" => comparing::compare(lists::Start::Searching, &rest),
         "vectors" => vectors::write(&rest),
         "random" => vectors::write_random(&rest),
+        "level_3" => level_3::print(),
         "play" => play::play(),
-        "run" => lists::run_one(&rest),
+        "run" => comparing::run_one(&rest),
         _ => {
-            eprintln!("usage: compare PROGRAM SEED COMMANDS | vectors FILE | random FILE SEED COMMANDS | play | run [CAPACITY] < bytes");
+            eprintln!("usage: compare PROGRAM SEED COMMANDS | searching PROGRAM SEED COMMANDS | vectors FILE");
+            eprintln!("       | random FILE SEED COMMANDS [searching] | level_3 | play | run [CAPACITY] < bytes");
             std::process::exit(2);
         }
     }

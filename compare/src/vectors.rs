@@ -1,26 +1,31 @@
-//! Stored lists with what harfrust prints for them, for a replay without harfrust.
+//! Stored lists with what harfrust prints for them, and behind them those of level_3.txt, for a replay without harfrust.
 //! Each is: capacity, number of command bytes, the bytes, number of text bytes, the text; numbers are four bytes, low byte first.
-use crate::commands::{bytes_of, Command, OPEN, OPERANDS};
+use crate::commands::{bytes_of, searches, Command, OPEN, OPERANDS};
 use crate::coverage::{self, Seen};
-use crate::lists::{bytes_of_list, list, seeded, Random, CAPACITY};
-use crate::theirs;
+use crate::level_3;
+use crate::lists::{list, Random, Start};
+use crate::printing;
+use crate::seeded::{Seeded, CAPACITY};
 use std::io::Write;
 
-type List = (usize, Vec<u8>);
+pub type List = (usize, Vec<u8>);
 
-fn c(byte: u8, operands: &[u32]) -> Command {
+/// A list from a seed that prints so many bytes is left to other seeds.
+pub const MUCH: usize = 2000;
+
+pub fn c(byte: u8, operands: &[u32]) -> Command {
     Command::new(byte, operands)
 }
 
-fn pushes(clusters: &[u32]) -> Vec<Command> {
+pub fn pushes(clusters: &[u32]) -> Vec<Command> {
     (0..).zip(clusters).map(|(i, &k)| c(1, &[60 + i, k])).collect()
 }
 
-fn stored(capacity: usize, parts: &[&[Command]]) -> List {
+pub fn stored(capacity: usize, parts: &[&[Command]]) -> List {
     (capacity, bytes_of(&parts.concat()))
 }
 
-fn info(cluster: u32, var0: u32) -> Command {
+pub fn info(cluster: u32, var0: u32) -> Command {
     c(0x0C, &[77, 5, cluster, var0, 2])
 }
 
@@ -34,7 +39,7 @@ fn with_output() -> Vec<Command> {
 }
 
 /// Every command accepted, at a level and wants; with output in the run, and then apart.
-fn tour(level: u32, wants: u32) -> List {
+pub fn tour(level: u32, wants: u32) -> List {
     let fresh = [c(0x00, &[level, wants])];
     let plain = [c(0x26, &[]), c(0x1A, &[7, 3, 1, 4]), c(0x1B, &[]), c(0x1C, &[1, 5]), c(0x1D, &[]), c(0x11, &[0, 3]), c(0x13, &[2, 5])];
     let marks = [c(0x15, &[0, 4]), c(0x16, &[1, 5]), c(0x17, &[0, 6]), c(0x23, &[]), c(0x07, &[]), c(0x08, &[1]), c(0x09, &[]), c(0x10, &[0])];
@@ -89,7 +94,7 @@ fn giving_up() -> Vec<List> {
     lists.extend(calls.into_iter().map(|call| full(&written, call)));
     lists.push(full(&[c(0x0B, &[9])], c(0x10, &[0])));
     lists.push(stored(65537, &[&grown, &[c(0x03, &[]), info(3, 1), c(0x04, &[]), c(0x01, &[5, 6])]]));
-    let lengths = [c(0x02, &[1_073_741_823]), c(0x02, &[1_073_741_824]), c(0x02, &[3]), c(0x03, &[]), c(0x10, &[0]), c(0x04, &[]), c(0x00, &[0, 4])];
+    let lengths = [c(0x02, &[1_073_741_823]), c(0x02, &[1_073_741_824]), c(0x02, &[3]), c(0x03, &[]), c(0x10, &[0]), c(0x04, &[]), c(0x00, &[0, 8])];
     lists.push(stored(2048, &[&lengths]));
     lists.push(stored(0, &[&[c(0x01, &[1, 1]), c(0x03, &[]), c(0x0B, &[5]), c(0x04, &[])]]));
     lists
@@ -137,8 +142,8 @@ fn wrapped() -> List {
 }
 
 /// Ranges around the 255 that a flag form takes, and merges over more than that.
-fn wide(level: u32) -> List {
-    let start = [c(0x00, &[level, 3]), c(0x02, &[300]), c(0x1F, &[]), c(0x11, &[250, 252])];
+pub fn wide(level: u32, wants: u32) -> List {
+    let start = [c(0x00, &[level, wants]), c(0x02, &[300]), c(0x1F, &[]), c(0x11, &[250, 252])];
     let flags = [c(0x15, &[0, 255]), c(0x15, &[0, 256]), c(0x16, &[20, 275]), c(0x16, &[20, 276]), c(0x17, &[299, 10]), c(0x17, &[40, OPEN])];
     let output = [c(0x03, &[]), c(0x08, &[280]), c(0x18, &[30, 285]), c(0x18, &[30, 286]), c(0x19, &[OPEN, 290]), c(0x19, &[270, OPEN]), c(0x12, &[4, 266])];
     let end = [c(0x04, &[]), c(0x13, &[10, 266]), c(0x23, &[]), c(0x1C, &[0, 299]), c(0x02, &[40])];
@@ -151,9 +156,12 @@ fn ids() -> List {
 }
 
 fn made() -> Vec<List> {
-    let mut lists: Vec<List> = (0..20).map(|n| tour(n / 4, n % 4)).collect();
+    let mut lists: Vec<List> = coverage::measured().map(|(level, wants)| tour(level, wants)).collect();
     lists.extend(put_aside());
-    lists.extend((0..4).map(wide));
+    lists.extend((0..4).map(|level| wide(level, 3)));
+    lists.extend((0..3).map(|level| wide(level, 7)));
+    lists.extend(level_3::readings(0).into_iter().map(|(_, l)| l));
+    lists.extend(coverage::measured().map(|(level, wants)| level_3::kept(level, wants, 8)));
     lists.extend(giving_up());
     lists.extend(drained());
     lists.push(wrapped());
@@ -163,16 +171,17 @@ fn made() -> Vec<List> {
 }
 
 /// A list from a seed, up to its last command that shows something new.
-fn grown(seed: u64, seen: &mut Seen) -> Option<List> {
+fn grown(seed: u64, seen: &Seen) -> Option<List> {
     let mut r = Random::new(seed);
     let capacity = [2048, 2048, 8, 5, 3][r.below(5)];
     let length = 4 + r.below(40);
-    let commands = list(&mut r, capacity, length);
+    let commands = list(&mut r, capacity, Start::Anywhere, length);
+    if searches(&bytes_of(&commands)) {
+        return None;
+    }
     let shown = coverage::of(capacity, &bytes_of(&commands));
     let last = shown.iter().rposition(|(b, things)| things.iter().any(|&t| !seen.contains(&(*b, t))))?;
-    let kept = (capacity, bytes_of(&commands[..=last]));
-    note(&kept, seen);
-    Some(kept)
+    Some((capacity, bytes_of(&commands[..=last]))).filter(|l| printed(l).len() < MUCH)
 }
 
 fn note(l: &List, seen: &mut Seen) -> usize {
@@ -182,48 +191,72 @@ fn note(l: &List, seen: &mut Seen) -> usize {
 }
 
 /// The bytes of a stored list.
-fn record(l: &List) -> Vec<u8> {
-    let text = theirs::run(l.0, &l.1);
+fn record(l: &List, text: &str) -> Vec<u8> {
     let number = |n: usize| (n as u32).to_le_bytes();
     [&number(l.0), &number(l.1.len())[..], &l.1, &number(text.len()), text.as_bytes()].concat()
 }
 
-/// vectors FILE: the lists above, then lists from seeds, each kept that shows something new, until nothing new has come for long.
-pub fn write(arguments: &[String]) {
+/// What harfrust prints for a list.
+pub fn printed(l: &List) -> String {
+    printing::run(l.0, &l.1)
+}
+
+fn theirs(l: &List) -> Vec<u8> {
+    record(l, &printed(l))
+}
+
+/// The lists above, then lists from seeds, each kept that shows something new, until nothing new has come for long.
+fn measured() -> Vec<List> {
     let mut seen = Seen::new();
     let mut lists = made();
-    lists.iter().for_each(|l| {
-        note(l, &mut seen);
-    });
     let by_hand = lists.len();
+    let mut commands: usize = lists.iter().map(|l| note(l, &mut seen)).sum();
     let (mut seed, mut idle) = (0, 0);
     while idle < 20_000 {
         (seed, idle) = (seed + 1, idle + 1);
-        if let Some(l) = grown(seed, &mut seen) {
+        if let Some(l) = grown(seed, &seen) {
+            commands += note(&l, &mut seen);
             lists.push(l);
             idle = 0;
         }
     }
-    coverage::check(&seen);
+    assert!(!lists.iter().any(|l| searches(&l.1)), "level 3 searches in a list for harfrust");
+    coverage::check(&seen, &coverage::asked());
     coverage::print(&seen);
-    let commands: usize = lists.iter().map(|l| note(l, &mut seen)).sum();
-    let bytes: Vec<u8> = lists.iter().flat_map(record).collect();
-    std::fs::File::create(&arguments[0]).and_then(|mut f| f.write_all(&bytes)).expect("a file");
-    println!("{} lists ({by_hand} by hand, the others from seeds up to {}), {commands} commands", lists.len(), seed - idle);
-    println!("{} things shown, {} bytes", seen.len(), bytes.len());
+    println!("{} lists ({by_hand} by hand, the others from seeds up to {}), {commands} commands, {} things shown", lists.len(), seed - idle, seen.len());
+    lists
 }
 
-/// random FILE SEED COMMANDS: lists as those of `compare`, for the replay; most at smaller capacities.
+/// The lists of level_3.txt, with what it says that they print.
+fn of_level_3() -> Vec<(List, String)> {
+    let mut seen = Seen::new();
+    let lists = level_3::checked();
+    let commands: usize = lists.iter().map(|(l, _)| note(l, &mut seen)).sum();
+    assert!(lists.iter().all(|(l, _)| searches(&l.1)), "level 3 does not search in a list of level_3.txt");
+    coverage::check(&seen, &coverage::asked_of_level_3());
+    println!("{} lists of level_3.txt, {commands} commands, {} things shown", lists.len(), seen.len());
+    lists
+}
+
+/// vectors FILE: both.
+pub fn write(arguments: &[String]) {
+    let mut bytes: Vec<u8> = measured().iter().flat_map(theirs).collect();
+    bytes.extend(of_level_3().iter().flat_map(|(l, text)| record(l, text)));
+    std::fs::write(&arguments[0], &bytes).expect("a file");
+    println!("{} bytes", bytes.len());
+}
+
+/// random FILE SEED COMMANDS [searching]: lists as those of `compare` or of `searching`, for the replay; most at smaller capacities.
 pub fn write_random(arguments: &[String]) {
-    let (seed, goal): (u64, usize) = (arguments[1].parse().unwrap(), arguments[2].parse().unwrap());
+    let start = match arguments.get(3).map(String::as_str) {
+        None => Start::Anywhere,
+        Some("searching") => Start::Searching,
+        Some(word) => panic!("{word}, where only `searching` can stand"),
+    };
     let mut file = std::io::BufWriter::new(std::fs::File::create(&arguments[0]).expect("a file"));
-    let (mut lists, mut commands) = (0, 0);
-    while commands < goal {
-        let capacity = [CAPACITY, 16, 8, 5, 3][lists % 5];
-        let made = seeded(seed, lists as u64, capacity);
-        file.write_all(&record(&(capacity, bytes_of_list(&made, lists as u64)))).unwrap();
-        lists += 1;
-        commands += made.len();
+    let mut lists = Seeded::new(start, &[CAPACITY, 16, 8, 5, 3], &arguments[1], &arguments[2]);
+    for made in lists.by_ref() {
+        file.write_all(&theirs(&(made.capacity, made.bytes(&made.commands)))).unwrap();
     }
-    println!("{lists} lists, {commands} commands");
+    println!("{}", lists.counts());
 }

@@ -3,7 +3,7 @@ use mathlib.Core.{Path.refl}
 use Prim.Native.Nat.{ℕ}
 use Rattle.lists.specs.{declared.Reply.Reply}
 use Rattle.lists.specs.Contract.{Begins}
-use Rattle.edits.proofs.FlagTables.{every-entry}
+use Rattle.edits.proofs.{FlagTables.every-entry, Searching.searches}
 use Rattle.commands.specs.Claims.{Claims}
 use Rattle.commands.proofs.Demand.{demand-3, demand-3-bytes, two-wordings, two-wordings-bytes}
 use Rattle.commands.proofs.Returned.{calls-run, bytes-run, demand-3-calls, demand-3-steps, two-wordings-calls, two-wordings-steps}
@@ -33,4 +33,5 @@ module _ {level wants : ℕ} {r : Reply} (v : Begins level wants r) where
     told-apart = record { one = wording-41; other = wording-42; same = numbers-only; differ = exam-differs };
     starred = starred;
     flag-table = every-entry;
+    searches = searches;
   }

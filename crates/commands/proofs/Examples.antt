@@ -3,7 +3,7 @@ use mathlib.Core.{Path._≡_, Path.refl, Bool.cond, Option.none, Option.some, Li
 use Prim.Native.Nat.{ℕ, zero, suc}
 use Rattle.records.specs.{Position, Answers.Said, Answers.ok, Answers.okWith, Answers.no, Glyphs.Glyph}
 use Rattle.lists.specs.{Account.Account, Account.len, Account.idx, Account.outLen, Account.positions, Account.freshAccount, Account.Outcome}
-use Rattle.commands.specs.Calls.{Call, Worded, run, c00-fresh, c01-push, c02-set-length, c03-clear-output, c04-sync, c05-clear-positions, c06-place, c07-next-glyph, c08-next-glyphs, c09-skip-glyph, c0A-copy-glyph, c0B-output-glyph, c0C-output-info, c0D-replace-glyph, c0E-replace-glyphs, c0F-delete-glyph, c10-move-to, c11-merge-clusters, c12-merge-out-clusters, c13-merge-grapheme-clusters, c14-merge-out-grapheme-clusters, c15-unsafe-to-break, c16-unsafe-to-concat, c17-safe-to-insert-tatweel, c18-unsafe-to-break-from-outbuffer, c19-unsafe-to-concat-from-outbuffer, c1A-set-masks, c1B-reverse, c1C-reverse-range, c1D-reverse-clusters, c1E-reverse-graphemes, c1F-reset-clusters, c21-delete-glyphs-inplace, c22-form-clusters, c23-propagate-flags, c24-enter, c25-leave, c26-allocate-lig-id}
+use Rattle.commands.specs.Calls.{Call, Worded, run, c00-fresh, c01-push, c02-set-length, c03-clear-output, c04-sync, c05-clear-positions, c06-place, c07-next-glyph, c08-next-glyphs, c09-skip-glyph, c0A-copy-glyph, c0B-output-glyph, c0C-output-info, c0D-replace-glyph, c0E-replace-glyphs, c0F-delete-glyph, c10-move-to, c11-merge-clusters, c12-merge-out-clusters, c13-merge-grapheme-clusters, c14-merge-out-grapheme-clusters, c15-unsafe-to-break, c16-unsafe-to-concat, c17-safe-to-insert-tatweel, c18-unsafe-to-break-from-outbuffer, c19-unsafe-to-concat-from-outbuffer, c1A-set-masks, c1B-reverse, c1C-reverse-range, c1D-reverse-clusters, c1E-reverse-graphemes, c1F-reset-clusters, c20-sort, c21-delete-glyphs-inplace, c22-form-clusters, c23-propagate-flags, c24-enter, c25-leave, c26-allocate-lig-id}
 use Rattle.commands.specs.Calls.{runBytes, inputPlace, donePlace}
 use Rattle.commands.proofs.Executable.{executable}
 
@@ -164,7 +164,7 @@ table =
     -- a `sync` whose size gives up is true, and *rest* is lost
     ∷ lent 327680 327680 (call c24-enter ∷ call (c02-set-length 65536) ∷ call c03-clear-output ∷ info 9 0 0 0 ∷ []) (call c04-sync ∷ []) (shows (okWith 1 ∷ []) (end 1 0 0 65536 0) [] [] (g 9 0 0 ∷ []))
     -- a failed `sync` keeps len and spoils: then 2, but for 00, which may be 4
-    ∷ on 0 0 (pushes 1 (0 ∷ 1 ∷ [])) (call (c02-set-length 1073741824) ∷ call c03-clear-output ∷ call c07-next-glyph ∷ call c04-sync ∷ call c26-allocate-lig-id ∷ call (c16-unsafe-to-concat none none) ∷ call (c00-fresh 0 4) ∷ []) (shows (okWith 0 ∷ ok ∷ ok ∷ okWith 0 ∷ no 2 ∷ no 2 ∷ no 4 ∷ []) (end 2 0 0 536870911 0) [] [] [])
+    ∷ on 0 0 (pushes 1 (0 ∷ 1 ∷ [])) (call (c02-set-length 1073741824) ∷ call c03-clear-output ∷ call c07-next-glyph ∷ call c04-sync ∷ call c26-allocate-lig-id ∷ call (c16-unsafe-to-concat none none) ∷ call (c00-fresh 0 8) ∷ []) (shows (okWith 0 ∷ ok ∷ ok ∷ okWith 0 ∷ no 2 ∷ no 2 ∷ no 4 ∷ []) (end 2 0 0 536870911 0) [] [] [])
     -- a back move past the cursor grows len and idx first
     ∷ on 0 0 (pushes 1 (0 ∷ 1 ∷ [])) (call c03-clear-output ∷ call c07-next-glyph ∷ info 3 0 5 0 ∷ info 4 0 6 0 ∷ call (c10-move-to 1) ∷ []) (shows (ok ∷ ok ∷ ok ∷ ok ∷ okWith 1 ∷ []) (end 3 0 1 536870908 1) (g 1 0 0 ∷ []) [] (g 3 5 0 ∷ g 4 6 0 ∷ g 2 1 0 ∷ []))
     -- its growth stays where the second cost fails; `max_ops` is below 0 then, and merges and masks still work
@@ -222,9 +222,31 @@ table =
     ∷ read (2 ∷ (word 2 ++ (31 ∷ 21 ∷ 255 ∷ 255 ∷ 255 ∷ 255 ∷ 255 ∷ 255 ∷ 255 ∷ 255 ∷ []))) (shows (okWith 1 ∷ ok ∷ ok ∷ []) (end 2 0 0 536870911 1) [] [] (g 0 0 0 ∷ g 0 1 3 ∷ []))
     -- bytes: an unknown command, with a known one behind it
     ∷ read (39 ∷ 3 ∷ []) (shows (no 6 ∷ []) (end 0 0 0 536870911 1) [] [] [])
+    -- wants bit 2 (document 02, N11): level 3 seeks the least in the whole range, and marks all that is not of it; without the bit, at the ends
+    ∷ on 3 0 (pushes 1 (5 ∷ 1 ∷ 7 ∷ [])) (call (c15-unsafe-to-break (some (inputPlace 0)) (some (inputPlace 3))) ∷ []) (shows (ok ∷ []) (end 3 0 0 536870911 1) [] [] (g 1 5 0 ∷ g 2 1 3 ∷ g 3 7 3 ∷ []))
+    ∷ on 3 4 (pushes 1 (5 ∷ 1 ∷ 7 ∷ [])) (call (c15-unsafe-to-break (some (inputPlace 0)) (some (inputPlace 3))) ∷ []) (shows (ok ∷ []) (end 3 0 0 536870911 1) [] [] (g 1 5 3 ∷ g 2 1 0 ∷ g 3 7 3 ∷ []))
+    ∷ on 3 0 (pushes 1 (1 ∷ 5 ∷ 1 ∷ 5 ∷ [])) (call (c15-unsafe-to-break (some (inputPlace 0)) (some (inputPlace 4))) ∷ []) (shows (ok ∷ []) (end 4 0 0 536870911 1) [] [] (g 1 1 0 ∷ g 2 5 0 ∷ g 3 1 0 ∷ g 4 5 3 ∷ []))
+    ∷ on 3 4 (pushes 1 (1 ∷ 5 ∷ 1 ∷ 5 ∷ [])) (call (c15-unsafe-to-break (some (inputPlace 0)) (some (inputPlace 4))) ∷ []) (shows (ok ∷ []) (end 4 0 0 536870911 1) [] [] (g 1 1 0 ∷ g 2 5 3 ∷ g 3 1 0 ∷ g 4 5 3 ∷ []))
+    -- at other levels it does nothing; a wants of 8, which only a state by value has, has it clear
+    ∷ on 0 4 (pushes 1 (5 ∷ 1 ∷ 7 ∷ [])) (call (c15-unsafe-to-break (some (inputPlace 0)) (some (inputPlace 3))) ∷ []) (shows (ok ∷ []) (end 3 0 0 536870911 1) [] [] (g 1 5 0 ∷ g 2 1 3 ∷ g 3 7 3 ∷ []))
+    ∷ on 1 4 (pushes 1 (5 ∷ 1 ∷ 7 ∷ [])) (call (c15-unsafe-to-break (some (inputPlace 0)) (some (inputPlace 3))) ∷ []) (shows (ok ∷ []) (end 3 0 0 536870911 1) [] [] (g 1 5 0 ∷ g 2 1 3 ∷ g 3 7 3 ∷ []))
+    ∷ on 2 4 (pushes 1 (5 ∷ 1 ∷ 7 ∷ [])) (call (c15-unsafe-to-break (some (inputPlace 0)) (some (inputPlace 3))) ∷ []) (shows (ok ∷ []) (end 3 0 0 536870911 1) [] [] (g 1 5 3 ∷ g 2 1 0 ∷ g 3 7 3 ∷ []))
+    ∷ on 3 8 (pushes 1 (5 ∷ 1 ∷ 7 ∷ [])) (call (c15-unsafe-to-break (some (inputPlace 0)) (some (inputPlace 3))) ∷ []) (shows (ok ∷ []) (end 3 0 0 536870911 1) [] [] (g 1 5 0 ∷ g 2 1 3 ∷ g 3 7 3 ∷ []))
+    -- 17, 18, 11 and the merges in 0E and 20 follow it
+    ∷ on 3 6 (pushes 1 (5 ∷ 1 ∷ 7 ∷ [])) (call (c17-safe-to-insert-tatweel (some (inputPlace 0)) (some (inputPlace 3))) ∷ []) (shows (ok ∷ []) (end 3 0 0 536870911 1) [] [] (g 1 5 4 ∷ g 2 1 0 ∷ g 3 7 4 ∷ []))
+    ∷ on 3 4 (pushes 1 (7 ∷ [])) (call c03-clear-output ∷ info 8 0 5 0 ∷ info 9 0 1 0 ∷ info 10 0 6 0 ∷ call (c18-unsafe-to-break-from-outbuffer (some (donePlace 0)) (some (inputPlace 1))) ∷ []) (shows (ok ∷ ok ∷ ok ∷ ok ∷ ok ∷ []) (end 1 0 3 536870911 1) (g 8 5 3 ∷ g 9 1 0 ∷ g 10 6 3 ∷ []) [] (g 1 7 3 ∷ []))
+    ∷ on 3 4 (pushes 1 (5 ∷ 1 ∷ 7 ∷ [])) (call (c11-merge-clusters (inputPlace 0) (inputPlace 3)) ∷ []) (shows (ok ∷ []) (end 3 0 0 536870911 1) [] [] (g 1 5 3 ∷ g 2 1 0 ∷ g 3 7 3 ∷ []))
+    ∷ on 3 4 (pushes 1 (5 ∷ 1 ∷ 7 ∷ [])) (call c03-clear-output ∷ replaceGlyphs 3 1 (99 ∷ []) ∷ []) (shows (ok ∷ ok ∷ []) (end 3 3 1 536870911 1) (g 99 5 3 ∷ []) [] [])
+    ∷ on 3 4 (made (info 1 0 5 1 ∷ info 2 0 1 1 ∷ info 3 0 7 0 ∷ [])) (call (c20-sort (inputPlace 0) (inputPlace 3) 0 1) ∷ []) (shows (ok ∷ []) (end 3 0 0 536870911 1) [] [] (gv 3 7 3 0 ∷ gv 1 5 3 1 ∷ gv 2 1 0 1 ∷ []))
+    -- 16 and 13 do not; nor does the table of 23, which goes by bits 0 and 1
+    ∷ on 3 5 (pushes 1 (5 ∷ 1 ∷ 7 ∷ [])) (call (c16-unsafe-to-concat (some (inputPlace 0)) (some (inputPlace 3))) ∷ []) (shows (ok ∷ []) (end 3 0 0 536870911 1) [] [] (g 1 5 2 ∷ g 2 1 2 ∷ g 3 7 2 ∷ []))
+    ∷ on 3 4 (pushes 1 (5 ∷ 1 ∷ 7 ∷ [])) (call (c13-merge-grapheme-clusters (inputPlace 0) (inputPlace 3)) ∷ []) (shows (ok ∷ []) (end 3 0 0 536870908 1) [] [] (g 1 1 0 ∷ g 2 1 0 ∷ g 3 1 0 ∷ []))
+    ∷ on 3 7 (made (info 1 4 5 0 ∷ [])) (call c23-propagate-flags ∷ []) (shows (ok ∷ []) (end 1 0 0 536870911 1) [] [] (g 1 5 7 ∷ []))
+    -- 00 takes wants up to 7
+    ∷ on 0 0 [] (call (c00-fresh 3 8) ∷ call (c00-fresh 3 7) ∷ []) (shows (no 4 ∷ ok ∷ []) (end 0 0 0 536870911 1) [] [] [])
     ∷ []
 
 -- every row of the table prints what it says
 examples : AllRight table
 unfolding table Right page leftBy ran on lent read shows drew places glyphLine positionLine endLine g gv end pushes call push replaceGlyphs made info rows word bytes-1 page-1 executable
-examples = (refl, (refl, (refl, (refl, (refl, (refl, (refl, (refl, (refl, (refl, (refl, (refl, (refl, (refl, (refl, (refl, (refl, (refl, (refl, (refl, (refl, (refl, (refl, (refl, (refl, (refl, (refl, (refl, (refl, (refl, (refl, (refl, (refl, (refl, (refl, (refl, (refl, (refl, (refl, (refl, (refl, (refl, (refl, tt)))))))))))))))))))))))))))))))))))))))))))
+examples = (refl, (refl, (refl, (refl, (refl, (refl, (refl, (refl, (refl, (refl, (refl, (refl, (refl, (refl, (refl, (refl, (refl, (refl, (refl, (refl, (refl, (refl, (refl, (refl, (refl, (refl, (refl, (refl, (refl, (refl, (refl, (refl, (refl, (refl, (refl, (refl, (refl, (refl, (refl, (refl, (refl, (refl, (refl, (refl, (refl, (refl, (refl, (refl, (refl, (refl, (refl, (refl, (refl, (refl, (refl, (refl, (refl, (refl, (refl, (refl, tt))))))))))))))))))))))))))))))))))))))))))))))))))))))))))))

@@ -4,7 +4,7 @@ use Rattle.records.specs.Library.{ℕ, zero, suc, _/_, _%_, _≤_, _<_, List, [
 use Rattle.records.specs.{Bytes.word, Glyphs.Glyph}
 use Rattle.lists.specs.{Account.Account, Account.len, Account.idx, Account.outLen, Account.positions, Account.freshAccount, Account.renamed, Account.Outcome}
 use Rattle.lists.specs.{Contract.account, Contract.outcomeOf, Contract.Meets, declared.Buffer.Buffer, declared.Reply.Reply}
-use Rattle.edits.specs.Groups.{EveryEntry}
+use Rattle.edits.specs.{Flags.Searches, Groups.EveryEntry}
 use Rattle.commands.specs.{Runs.Steps, declared.Step.Step, Texts.layoutRecord, Texts.examText, Texts.deskText, Table.Starred}
 use Rattle.commands.specs.Calls.{Worded, perform, run, Form, unknown, operands, glyphAnd, listed, unreadable, got, words, operand, formOf, runBytes}
 
@@ -130,7 +130,7 @@ StepRun script at b f s (x ∷ xs) =
     × StepRun script (x .step .next) (x .step .reply .buffer) (x .first) (x .second) xs
 
 -- ---- the claims. b is what `begin` gives back: by `Begins` (lists, Contract) its account is fresh in any slices, with the given level and wants, or wants 0
--- for wants over 3. A list that mixes direct calls and bytes is one of direct calls, since a command that is read is that call.
+-- for wants over 7. A list that mixes direct calls and bytes is one of direct calls, since a command that is read is that call.
 -- Demand 2: answers, counters, lists and positions "are proved equal to the two-list account in document 01"
 pub record Demand2 (b : Buffer) : Type 0 where
   pub calls : (i j : List ℕ) (ws : List (Worded ℕ)) (xs : List Returned)
@@ -174,3 +174,5 @@ pub record Claims (level wants : ℕ) (b : Buffer) : Type 0 where
   pub starred : Starred
   -- "Every entry is proved to be what document 01's formula gives." (document 02, N3)
   pub flag-table : EveryEntry
+  -- what wants bit 2 changes in the search of level 3, and that it changes nothing else (document 02, N11)
+  pub searches : (a : Account ℕ) → Searches a

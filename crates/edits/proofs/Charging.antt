@@ -19,22 +19,22 @@ module _ (b : Buffer) where
   abbrev at : (i o : ℕ) → Buffer
   at i o = record { idx = record { 0 = i }; len = b .len; «out_len» = record { 0 = o }; limits = b .limits; wants = b .wants; phase = b .phase; swapped = b .swapped; «have_separate_output» = b .«have_separate_output»; level = b .level }
 
-  pub running-is : {run other : List ℕ} → WholeInput b run other → running (b .level) (b .len .0) (b .limits) b ≡ b
+  pub running-is : {run other : List ℕ} → WholeInput b run other → running (b .level) (b .wants) (b .len .0) (b .limits) b ≡ b
   running-is w = ap₂ at (sym (w .start)) (sym (w .held .none (w .plain)))
 
 -- it is one under any limits
-pub limits-running : (level n : ℕ) (l l′ : Limits) (b : Buffer) → withLimitsOf l′ (running level n l b) ≡ running level n l′ b
-limits-running level n l l′ b = limits-is l′ (running level n l b)
+pub limits-running : (level wants n : ℕ) (l l′ : Limits) (b : Buffer) → withLimitsOf l′ (running level wants n l b) ≡ running level wants n l′ b
+limits-running level wants n l l′ b = limits-is l′ (running level wants n l b)
 
 pub charges-acts : {Asked : Buffer → (run other : List ℕ) → Type 0} {h : Account ℕ → Account ℕ} {b : Buffer} {l : Limits} {run other run′ other′ : List ℕ} → WholeInput b run other → Asked b run other
-    → Charges Asked h (b .level) (b .len .0) (b .limits) l run other run′ other′ → Acts h b run other (withLimitsOf l b) run′ other′
+    → Charges Asked h (b .level) (b .wants) (b .len .0) (b .limits) l run other run′ other′ → Acts h b run other (withLimitsOf l b) run′ other′
 charges-acts {Asked} {h} {b} {l} {run} {other} {run′} {other′} w a u =
     subst (λ (x : Buffer). Acts h x run other (withLimitsOf l x) run′ other′) (running-is b w)
-    (rw (limits-running (b .level) (b .len .0) (b .limits) l b) (u .acts b (subst (λ (x : Buffer). Asked x run other) (sym (running-is b w)) a)))
+    (rw (limits-running (b .level) (b .wants) (b .len .0) (b .limits) l b) (u .acts b (subst (λ (x : Buffer). Asked x run other) (sym (running-is b w)) a)))
 
 -- after a step that leaves the run where it is
-pub whole-after : {level n : ℕ} {l l′ : Limits} (b : Buffer) {h : Account ℕ → Account ℕ} {run other run′ other′ : List ℕ} → WholeInput (running level n l b) run other → Acts h (running level n l b) run other (running level n l′ b) run′ other′
-    → length run′ ≡ length run → length other′ ≡ length other → WholeInput (running level n l′ b) run′ other′
+pub whole-after : {level wants n : ℕ} {l l′ : Limits} (b : Buffer) {h : Account ℕ → Account ℕ} {run other run′ other′ : List ℕ} → WholeInput (running level wants n l b) run other → Acts h (running level wants n l b) run other (running level wants n l′ b) run′ other′
+    → length run′ ≡ length run → length other′ ≡ length other → WholeInput (running level wants n l′ b) run′ other′
 whole-after b w u lr lo = whole-lengths lr lo (record { held = u .held; plain = w .plain; clean = w .clean; start = refl })
 
 pub settles-left : (b : Buffer) (l : Limits) → settled b (leftWith l (leaving b true Done)) ≡ reply (withLimitsOf l b) Done

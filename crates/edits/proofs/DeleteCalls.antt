@@ -37,10 +37,10 @@ module _ {separate : Bool} {idx outLen : ℕ} {run other : List ℕ} where
 
 module _ {separate t : Bool} {idx len outLen : ℕ} {run other : List ℕ} (w : NextFound idx len run t) where
   pub surviving-next : t ≡ true → Surviving separate idx len outLen run other true
-  surviving-next h = record { is = λ b v. survives-next v (sym (w .is (laid separate (b .level) idx len outLen b) other v) ∙ h) }
+  surviving-next h = record { is = λ b v. survives-next v (sym (w .is (laid separate (b .level) (b .wants) idx len outLen b) other v) ∙ h) }
 
   pub surviving-last : {u : Bool} → t ≡ false → LastFound separate idx outLen run other u → Surviving separate idx len outLen run other u
-  surviving-last h x = record { is = λ b v. survives-last v (sym (w .is (laid separate (b .level) idx len outLen b) other v) ∙ h) (x .is (laid separate (b .level) idx len outLen b) v) }
+  surviving-last h x = record { is = λ b v. survives-last v (sym (w .is (laid separate (b .level) (b .wants) idx len outLen b) other v) ∙ h) (x .is (laid separate (b .level) (b .wants) idx len outLen b) v) }
 
 -- ---- the cluster goes to the tail of the output
 module _ {separate : Bool} {idx outLen : ℕ} {run other : List ℕ} (g d : GlyphInfo) (some-out : 0 < outLen) (eg : seen g ≡ getD (glyphs run) idx zeroGlyph) (ed : seen d ≡ getD (cond separate (glyphs other) (glyphs run)) (outLen - 1) zeroGlyph) where
@@ -55,28 +55,28 @@ module _ {separate : Bool} {idx outLen : ℕ} {run other : List ℕ} (g d : Glyp
     inherits-within s ea er lr = record { acts = λ b v. inherit-within v some-out g d eg ed h s ea er lr; own = λ z. refl }
 
 -- ---- the act
-module _ {separate t : Bool} {level idx len outLen : ℕ} {run other : List ℕ} (w : Surviving separate idx len outLen run other t) where
+module _ {separate t : Bool} {level wants idx len outLen : ℕ} {run other : List ℕ} (w : Surviving separate idx len outLen run other t) where
   -- without a cost
-  free : {x : Account ℕ → Account ℕ} {run′ other′ : List ℕ} (b : Buffer) → let y = laid separate level idx len outLen b in Deletable y run other → Acts x y run other y run′ other′ → length run′ ≡ length run → length other′ ≡ length other
+  free : {x : Account ℕ → Account ℕ} {run′ other′ : List ℕ} (b : Buffer) → let y = laid separate level wants idx len outLen b in Deletable y run other → Acts x y run other y run′ other′ → length run′ ≡ length run → length other′ ≡ length other
       → deleted (accountOf y run other) ≡ dropping 1 (x (accountOf y run other)) → Acts (λ a. deleted a) y run other (atPlaces (idx + 1) len outLen (withLimitsOf (mergeLimits false 2 (b .limits)) y)) run′ other′
   unfolding mergeLimits
-  free {x} b v u lr lo e = deletes v {x = x} (b .limits) (rw (own-limits (laid separate level idx len outLen b)) u) lr lo e
+  free {x} b v u lr lo e = deletes v {x = x} (b .limits) (rw (own-limits (laid separate level wants idx len outLen b)) u) lr lo e
 
-  deletes-kept : t ≡ true → Deletes separate level idx len outLen false run other run other
-  deletes-kept h = record { acts = λ b v. free b v (stays v) refl refl (deletes-survived v (sym (w .is (laid separate level idx len outLen b) v) ∙ h)); own = λ z. refl }
+  deletes-kept : t ≡ true → Deletes separate level wants idx len outLen false run other run other
+  deletes-kept h = record { acts = λ b v. free b v (stays v) refl refl (deletes-survived v (sym (w .is (laid separate level wants idx len outLen b) v) ∙ h)); own = λ z. refl }
 
   module _ (h : t ≡ false) where
-    deletes-inherits : {run′ other′ : List ℕ} → 0 < outLen → Inherits separate idx outLen run other run′ other′ → length run′ ≡ length run → length other′ ≡ length other → Deletes separate level idx len outLen false run other run′ other′
-    deletes-inherits k u lr lo = record { acts = λ b v. free b v (u .acts (laid separate level idx len outLen b) v) lr lo (deletes-inherited v (sym (w .is (laid separate level idx len outLen b) v) ∙ h) k); own = u .own }
+    deletes-inherits : {run′ other′ : List ℕ} → 0 < outLen → Inherits separate idx outLen run other run′ other′ → length run′ ≡ length run → length other′ ≡ length other → Deletes separate level wants idx len outLen false run other run′ other′
+    deletes-inherits k u lr lo = record { acts = λ b v. free b v (u .acts (laid separate level wants idx len outLen b) v) lr lo (deletes-inherited v (sym (w .is (laid separate level wants idx len outLen b) v) ∙ h) k); own = u .own }
 
-    deletes-single : outLen ≤ 0 → len - idx < 2 → Deletes separate level idx len outLen false run other run other
-    deletes-single k l = record { acts = λ b v. free b v (stays v) refl refl (deletes-alone v (sym (w .is (laid separate level idx len outLen b) v) ∙ h) k (omega arith)); own = λ z. refl }
+    deletes-single : outLen ≤ 0 → len - idx < 2 → Deletes separate level wants idx len outLen false run other run other
+    deletes-single k l = record { acts = λ b v. free b v (stays v) refl refl (deletes-alone v (sym (w .is (laid separate level wants idx len outLen b) v) ∙ h) k (omega arith)); own = λ z. refl }
 
-    deletes-merges : {merges : Bool} {run′ other′ : List ℕ} → outLen ≤ 0 → 2 ≤ len - idx → merges ≡ clustersMerge (readLevel level) → Merges separate merges level idx len outLen idx (idx + 2) run other run′ other′ → length run′ ≡ length run → length other′ ≡ length other
-        → Deletes separate level idx len outLen merges run other run′ other′
+    deletes-merges : {merges : Bool} {run′ other′ : List ℕ} → outLen ≤ 0 → 2 ≤ len - idx → merges ≡ clustersMerge (readLevel level) → Merges separate merges level wants idx len outLen idx (idx + 2) run other run′ other′ → length run′ ≡ length run → length other′ ≡ length other
+        → Deletes separate level wants idx len outLen merges run other run′ other′
     deletes-merges {merges} {run′} {other′} k l em m lr lo = record {
       acts = λ b v.
-          let y = laid separate level idx len outLen b in
+          let y = laid separate level wants idx len outLen b in
           let two : idx + 2 - idx ≡ 2 = omega arith in
           deletes v (mergeLimits merges 2 (b .limits)) (rw two at (m .acts y (rw (v .output)) (next-mergeful v (omega arith)))) lr lo
           (merge-deletes v (sym (w .is y v) ∙ h) k (omega arith) ∙ ap (λ (z : Bool). dropping 1 (merge z (idx - goneOf y) (idx + 2 - goneOf y) (accountOf y run other))) (sym em));
@@ -84,19 +84,19 @@ module _ {separate t : Bool} {level idx len outLen : ℕ} {run other : List ℕ}
     }
 
 -- wherever the run lies
-module _ {swapped separate t : Bool} {level idx len outLen : ℕ} {f s : List ℕ} (w : SurvivingBy swapped separate idx len outLen f s t) where
-  pub keeps-survived : t ≡ true → Sided swapped (Deletes separate level idx len outLen false) f s f s
+module _ {swapped separate t : Bool} {level wants idx len outLen : ℕ} {f s : List ℕ} (w : SurvivingBy swapped separate idx len outLen f s t) where
+  pub keeps-survived : t ≡ true → Sided swapped (Deletes separate level wants idx len outLen false) f s f s
   keeps-survived h = record { first = λ x. deletes-kept (w .first x) h; second = λ x. deletes-kept (w .second x) h }
 
   module _ (h : t ≡ false) where
-    pub keeps-single : outLen ≤ 0 → len - idx < 2 → Sided swapped (Deletes separate level idx len outLen false) f s f s
+    pub keeps-single : outLen ≤ 0 → len - idx < 2 → Sided swapped (Deletes separate level wants idx len outLen false) f s f s
     keeps-single k l = record { first = λ x. deletes-single (w .first x) h k l; second = λ x. deletes-single (w .second x) h k l }
 
     module _ {f′ s′ : List ℕ} (lf : length f′ ≡ length f) (ls : length s′ ≡ length s) where
-      pub keeps-inherited : 0 < outLen → Sided swapped (Inherits separate idx outLen) f s f′ s′ → Sided swapped (Deletes separate level idx len outLen false) f s f′ s′
+      pub keeps-inherited : 0 < outLen → Sided swapped (Inherits separate idx outLen) f s f′ s′ → Sided swapped (Deletes separate level wants idx len outLen false) f s f′ s′
       keeps-inherited k u = record { first = λ x. deletes-inherits (w .first x) h k (u .first x) lf ls; second = λ x. deletes-inherits (w .second x) h k (u .second x) ls lf }
 
-      pub keeps-merged : {merges : Bool} → outLen ≤ 0 → 2 ≤ len - idx → merges ≡ clustersMerge (readLevel level) → Sided swapped (Merges separate merges level idx len outLen idx (idx + 2)) f s f′ s′ → Sided swapped (Deletes separate level idx len outLen merges) f s f′ s′
+      pub keeps-merged : {merges : Bool} → outLen ≤ 0 → 2 ≤ len - idx → merges ≡ clustersMerge (readLevel level) → Sided swapped (Merges separate merges level wants idx len outLen idx (idx + 2)) f s f′ s′ → Sided swapped (Deletes separate level wants idx len outLen merges) f s f′ s′
       keeps-merged k l em m = record { first = λ x. deletes-merges (w .first x) h k l em (m .first x) lf ls; second = λ x. deletes-merges (w .second x) h k l em (m .second x) ls lf }
 
 pub survives-first : {swapped separate t : Bool} {idx len outLen : ℕ} {f s : List ℕ} → swapped ≡ false → Surviving separate idx len outLen f s t → SurvivingBy swapped separate idx len outLen f s t
@@ -127,7 +127,7 @@ due-is : (b : Buffer) {b′ : Buffer} {v : Verdict} (merged : Bool) → b′ ≡
 due-is b merged eb w = settled-is {acts = true} (near-placed b _ _ _ _) (record { is = rw (w .is, eb) (simp (other-limits, other-places)) })
 
 abbrev DeleteDecided : Buffer → (f s : List ℕ) → Verdict → Type 0
-DeleteDecided b f s v = DecidedBy Bool mergedWith (λ capacity a. deleteGlyph a) b f s v (DeleteRoom (b .idx .0) (b .len .0) (b .«out_len» .0) f s) (Deletes (b .«have_separate_output») (b .level) (b .idx .0) (b .len .0) (b .«out_len» .0))
+DeleteDecided b f s v = DecidedBy Bool mergedWith (λ capacity a. deleteGlyph a) b f s v (DeleteRoom (b .idx .0) (b .len .0) (b .«out_len» .0) f s) (Deletes (b .«have_separate_output») (b .level) (b .wants) (b .idx .0) (b .len .0) (b .«out_len» .0))
 
 module _ {b : Buffer} {f s : List ℕ} {v : Verdict} where
   pub delete-unsound : sound b f s ≡ false → Leaves b false (No Contradiction) v → DeleteDecided b f s v

@@ -15,9 +15,10 @@ use Rattle.records.proofs.Tests.{tested}
 use Rattle.lists.proofs.Showing.{on-shown, account-same}
 use Rattle.records.proofs.Edited.{edit-drop-behind}
 use Rattle.edits.specs.declared.InputBound.{InputBound}
-use Rattle.edits.specs.{inner.Acts.Acts, inner.Acts.Mergeful, Flags.inputBound, inner.BoundNumbers.inputNumber, Flags.interior, Flags.sought, Flags.flagInterior, Flags.flagAll, Flags.placeNumber, Flags.tooFar, Flags.startOf, Flags.endOf, Flags.plainForm, Flags.wantsConcat, Flags.wantsTatweel, inner.Holding.holds, inner.Marks.flaggedRun, inner.Marks.Flaggable, inner.Marks.Flagged, inner.Marks.FlagsInput}
+use Rattle.edits.specs.{inner.Acts.Acts, inner.Acts.Mergeful, Flags.inputBound, inner.BoundNumbers.inputNumber, Flags.interior, Flags.searchLevel, Flags.sought, Flags.flagInterior, Flags.flagAll, Flags.placeNumber, Flags.tooFar, Flags.startOf, Flags.endOf, Flags.plainForm, Flags.wantsConcat, Flags.wantsTatweel, inner.Holding.holds, inner.Marks.flaggedRun, inner.Marks.Flaggable, inner.Marks.Flagged, inner.Marks.FlagsInput}
 use Rattle.edits.proofs.MergeForms.{InputRange, InputFrom}
 use Rattle.edits.proofs.BoundLaws.{end-most}
+use Rattle.edits.proofs.MarkLaws.{sided-as}
 use Rattle.edits.proofs.FlagLaws.{flagged-all, flagged-all-within}
 use Rattle.edits.proofs.Places.{paired-flagged-all}
 use Rattle.edits.proofs.MergeCalls.{own-apart, own-within, acts-free, from-gone, range-apart, range-within, out-low, width, flag-is, flag-behind, neither-left, neither-right, in-acts}
@@ -52,7 +53,7 @@ module _ {b : Buffer} {run other : List ℕ} {s e : ℕ} (v : Mergeful b s e run
   unfolding flagInterior
   short-is h eg = account-same b run run′ other eg ∙ rw (width v, h)
 
-  plain-acts : (interiorly : Bool) → length run′ ≡ length run → glyphs run′ ≡ flaggedRun interiorly (readLevel (b .level)) bits s e (glyphs run)
+  plain-acts : (interiorly : Bool) → length run′ ≡ length run → glyphs run′ ≡ flaggedRun interiorly (searchLevel (readLevel (b .level)) (b .wants)) bits s e (glyphs run)
       → Acts (flagPlain interiorly bits (s - goneOf b) (e - goneOf b)) b run other b run′ other
   unfolding flaggedRun
   plain-acts true lr eg = by-width (ltb (e - s) 2) refl
@@ -63,7 +64,7 @@ module _ {b : Buffer} {run other : List ℕ} {s e : ℕ} (v : Mergeful b s e run
           acts-free (v .held) (flagInterior bits (s - goneOf b) (e - goneOf b)) lr (ap (drop (b .len .0)) same) (short-is h same) .0
       by-width false h =
           let two : 2 ≤ e - s = ltb-false (e - s) 2 h in
-          let marked : glyphs run′ ≡ interior (readLevel (b .level)) (sought (readLevel (b .level)) (slice s e (clusters (glyphs run)))) bits s e (glyphs run) = eg ∙ rw h in
+          let marked : glyphs run′ ≡ interior (searchLevel (readLevel (b .level)) (b .wants)) (sought (searchLevel (readLevel (b .level)) (b .wants)) (slice s e (clusters (glyphs run)))) bits s e (glyphs run) = eg ∙ rw h in
           acts-free (v .held) (flagInterior bits (s - goneOf b) (e - goneOf b)) lr (flag-behind v bits run′ two marked) (flag-is v bits run′ two marked) .0
   plain-acts false lr eg =
       acts-free (v .held) (flagAll bits (s - goneOf b) (e - goneOf b)) lr (rw eg (edit-drop-behind (flagged bits) s e (b .len .0) (glyphs run) (v .order) (v .end))) (all-is eg) .0
@@ -174,18 +175,23 @@ module _ {concat : Bool} {start end : InputBound} {b : Buffer} {f s : List ℕ} 
   plain-asked t es ee = rw (es, ee) (d .is true (λ n. 0) .asked t)
 
 module _ {start end : InputBound} {b : Buffer} {f s : List ℕ} {v : Verdict} where
-  pub plain-break : FlagsInput false start end b f s v → Decided (λ capacity a. plainForm true true 3 (inputBound start) (inputBound end) a) b f s (settled b v) (v .acts) (Flaggable (startOf (inputNumber start)) (endOf (inputNumber end) (b .len .0)) f s) (Flagged true (readLevel (b .level)) 3 (startOf (inputNumber start)) (endOf (inputNumber end) (b .len .0)))
+  pub plain-break : FlagsInput false start end b f s v → Decided (λ capacity a. plainForm true true 3 (inputBound start) (inputBound end) a) b f s (settled b v) (v .acts) (Flaggable (startOf (inputNumber start)) (endOf (inputNumber end) (b .len .0)) f s) (Flagged true (searchLevel (readLevel (b .level)) (b .wants)) 3 (startOf (inputNumber start)) (endOf (inputNumber end) (b .len .0)))
   plain-break d = d .is true (λ n. 3)
 
-  pub plain-concat : FlagsInput true start end b f s v → Decided (λ capacity a. plainForm false (wantsConcat (a .state .wants)) 2 (inputBound start) (inputBound end) a) b f s (settled b v) (v .acts) (Flaggable (startOf (inputNumber start)) (endOf (inputNumber end) (b .len .0)) f s) (Flagged false (readLevel (b .level)) 2 (startOf (inputNumber start)) (endOf (inputNumber end) (b .len .0)))
+  pub plain-concat : FlagsInput true start end b f s v → Decided (λ capacity a. plainForm false (wantsConcat (a .state .wants)) 2 (inputBound start) (inputBound end) a) b f s (settled b v) (v .acts) (Flaggable (startOf (inputNumber start)) (endOf (inputNumber end) (b .len .0)) f s) (Flagged false (searchLevel (readLevel (b .level)) (b .wants)) 2 (startOf (inputNumber start)) (endOf (inputNumber end) (b .len .0)))
   plain-concat d = d .is false (λ n. 2)
 
-  pub plain-tatweel : FlagsInput false start end b f s v → Decided (λ capacity a. plainForm true true (cond (wantsTatweel (a .state .wants)) 4 3) (inputBound start) (inputBound end) a) b f s (settled b v) (v .acts) (Flaggable (startOf (inputNumber start)) (endOf (inputNumber end) (b .len .0)) f s) (Flagged true (readLevel (b .level)) (cond (wantsTatweel (b .wants)) 4 3) (startOf (inputNumber start)) (endOf (inputNumber end) (b .len .0)))
+  pub plain-tatweel : FlagsInput false start end b f s v → Decided (λ capacity a. plainForm true true (cond (wantsTatweel (a .state .wants)) 4 3) (inputBound start) (inputBound end) a) b f s (settled b v) (v .acts) (Flaggable (startOf (inputNumber start)) (endOf (inputNumber end) (b .len .0)) f s) (Flagged true (searchLevel (readLevel (b .level)) (b .wants)) (cond (wantsTatweel (b .wants)) 4 3) (startOf (inputNumber start)) (endOf (inputNumber end) (b .len .0)))
   plain-tatweel d = d .is true (λ n. cond (wantsTatweel n) 4 3)
 
 -- an act, by the numbers that the code has for its bits and places
-pub flagged-at : {y interiorly : Bool} {level x x′ i i′ j j′ : ℕ} {f s f′ s′ : List ℕ} → Sided y (Flagged interiorly level x i j) f s f′ s′ → x ≡ x′ → i ≡ i′ → j ≡ j′ → Sided y (Flagged interiorly level x′ i′ j′) f s f′ s′
-flagged-at w ex ei ej = rw (← ex, ← ei, ← ej) w
+pub flagged-at : {y interiorly : Bool} {level level′ x x′ i i′ j j′ : ℕ} {f s f′ s′ : List ℕ} → Sided y (Flagged interiorly level x i j) f s f′ s′ → level ≡ level′ → x ≡ x′ → i ≡ i′ → j ≡ j′ → Sided y (Flagged interiorly level′ x′ i′ j′) f s f′ s′
+flagged-at w el ex ei ej = rw (← el, ← ex, ← ei, ← ej) w
+
+-- every glyph is marked alike at all levels
+pub all-at : {y : Bool} {level level′ x i i′ j j′ : ℕ} {f s f′ s′ : List ℕ} → Sided y (Flagged false level x i j) f s f′ s′ → i ≡ i′ → j ≡ j′ → Sided y (Flagged false level′ x i′ j′) f s f′ s′
+unfolding flaggedRun
+all-at w ei ej = rw (← ei, ← ej) (sided-as (λ run other run′ other′ d. record { run-is = d .run-is; other-is = d .other-is }) w)
 
 module _ (wants : ℕ) where
   pub tatweel-wanted : wants / 2 % 2 ≡ 1 → _≡_ {A = ℕ} 4 (cond (wantsTatweel wants) 4 3)
@@ -195,6 +201,6 @@ module _ (wants : ℕ) where
   tatweel-unwanted h = rw (ne-eqb (wants / 2 % 2) 1 h)
 
 -- for the proofs of functions
-pub ruleset flag-calls = (soundness, tested, plain-unsound, plain-spoiled, plain-idle, plain-outside, plain-ahead, plain-asked, plain-break, plain-concat, plain-tatweel, flagged-at)
+pub ruleset flag-calls = (soundness, tested, plain-unsound, plain-spoiled, plain-idle, plain-outside, plain-ahead, plain-asked, plain-break, plain-concat, plain-tatweel, flagged-at, all-at)
 
 pub ruleset flag-tests = (past, not-past, idle-wanted, idle-unwanted, start-past, tatweel-wanted, tatweel-unwanted)

@@ -14,6 +14,7 @@ use Rattle.lists.specs.Account.{Account, State, input, withInput}
 use Rattle.lists.proofs.{Runs.heads-le, Runs.tails-le, Editing.edit-empty, Editing.edit-length}
 use Rattle.edits.specs.Flags.{interior, sought, seeksAll, flagInterior, flagAll}
 use Rattle.edits.specs.inner.Holding.{holds, cut}
+use Rattle.edits.proofs.Searching.{searching, searching-held}
 use Rattle.edits.proofs.MergeForms.{InputRange, InputFrom}
 use Rattle.edits.proofs.MergePlans.{first-slice, last-slice}
 use Rattle.edits.proofs.Holding.{slice-take, slice-shift}
@@ -148,22 +149,18 @@ module _ (level m bits n i j : ℕ) (run : List (Glyph ℕ)) (o : i ≤ j) (b : 
       pick false false t h ot = edit-take-before (flagged bits) i (i + h) n run a (omega arith)
 
 -- ---- the account after a plain form. Of any two lists
-pub level-held : (run out : List (Glyph ℕ)) (gone idx len outLen : ℕ) (k : State) → (holds run out gone idx len outLen k) .state .level ≡ k .level
-unfolding holds
-level-held run out gone idx len outLen k = refl
-
 width : (g s e : ℕ) → g ≤ s → s ≤ e → e - g - (s - g) ≡ e - s
 width g s e o p = omega arith
 
 module _ {run out : List (Glyph ℕ)} {gone idx len outLen s e : ℕ} (v : InputRange run out len outLen s e) (w : InputFrom gone idx len s) (bits : ℕ) (k : State) where
-  pub flagged-held : (level : ℕ) {run′ : List (Glyph ℕ)} (out′ : List (Glyph ℕ)) → 2 ≤ e - s → k .level ≡ level → run′ ≡ interior level (sought level (slice s e (clusters run))) bits s e run → take outLen out′ ≡ take outLen out
+  pub flagged-held : (level : ℕ) {run′ : List (Glyph ℕ)} (out′ : List (Glyph ℕ)) → 2 ≤ e - s → searching k ≡ level → run′ ≡ interior level (sought level (slice s e (clusters run))) bits s e run → take outLen out′ ≡ take outLen out
       → holds run′ out′ gone idx len outLen k ≡ flagInterior bits (s - gone) (e - gone) (holds run out gone idx len outLen k)
   unfolding flagInterior
   flagged-held level {run′} out′ two el er eo =
       let order : s ≤ e = v .order in
       let a : Account ℕ = holds run out gone idx len outLen k in
       let in-is : input a ≡ slice gone len run = input-is run out gone idx len outLen k (w .cursor) (w .inside) (v .fits) in
-      let lv : a .state .level ≡ level = level-held run out gone idx len outLen k ∙ el in
+      let lv : searching (a .state) ≡ level = searching-held run out gone idx len outLen k ∙ el in
       let wide : ltb (e - gone - (s - gone)) 2 ≡ false = le-ltb (e - gone - (s - gone)) 2 (rw (width gone s e (w .start) order) two) in
       let R : List ℕ = slice s e (clusters run) in
       let I : List (Glyph ℕ) = slice gone len run in
@@ -184,7 +181,7 @@ module _ {run out : List (Glyph ℕ)} {gone idx len outLen s e : ℕ} (v : Input
 
 -- the output in the run itself: the same, as it is not reached
 module _ {run : List (Glyph ℕ)} {gone idx len outLen s e : ℕ} (v : InputRange run run len outLen s e) (w : InputFrom gone idx len s) (low : outLen ≤ gone) (bits : ℕ) (k : State) where
-  pub flagged-within : (level : ℕ) {run′ : List (Glyph ℕ)} → 2 ≤ e - s → k .level ≡ level → run′ ≡ interior level (sought level (slice s e (clusters run))) bits s e run
+  pub flagged-within : (level : ℕ) {run′ : List (Glyph ℕ)} → 2 ≤ e - s → searching k ≡ level → run′ ≡ interior level (sought level (slice s e (clusters run))) bits s e run
       → holds run′ run′ gone idx len outLen k ≡ flagInterior bits (s - gone) (e - gone) (holds run run gone idx len outLen k)
   flagged-within level {run′} two el er =
       let order : s ≤ e = v .order in

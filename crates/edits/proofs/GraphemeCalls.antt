@@ -26,20 +26,20 @@ module _ (slot mask : ℕ) where
 in-phase : {phase : Phase} {n slot mask : ℕ} (b : Buffer) {run other run′ other′ : List ℕ} → b .phase ≡ phase → TurnsGraphemes phase n slot mask run other run′ other′ → Rearranges (λ k. regrouped (groupSizes (continues slot mask) (infos k)) k) (b .phase) n run other run′ other′
 in-phase {phase} {n} {slot} {mask} b {run} {other} {run′} {other′} e v = subst (λ (p : Phase). Rearranges (λ k. regrouped (groupSizes (continues slot mask) (infos k)) k) p n run other run′ other′) (sym e) (v .is)
 
-module _ {phase : Phase} {slot mask level n : ℕ} {merging : Bool} {l : Limits} {run other : List ℕ} where
+module _ {phase : Phase} {slot mask level wants n : ℕ} {merging : Bool} {l : Limits} {run other : List ℕ} where
   pub regroup-plain : {run′ other′ : List ℕ} → TurnsGraphemes phase n slot mask run other run′ other′ → merging ≡ false → length run′ ≡ length run → length other′ ≡ length other
-      → Regroups phase merging level n slot mask l l run other run′ other′
+      → Regroups phase merging level wants n slot mask l l run other run′ other′
   unfolding regroups
   regroup-plain v h lr lo = record { is = record { acts = λ b w. rw h (rearranged (w .whole) lr lo (in-phase b (w .is) v)) } }
 
   pub regroup-merged : {l′ : Limits} {run₁ other₁ run₂ other₂ : List ℕ} → TurnsGraphemes phase n slot mask run₁ other₁ run₂ other₂
-      → MergesEach true level n slot mask l l′ run other run₁ other₁ → merging ≡ true
-      → length run₁ ≡ length run → length other₁ ≡ length other → length run₂ ≡ length run₁ → length other₂ ≡ length other₁ → Regroups phase merging level n slot mask l l′ run other run₂ other₂
+      → MergesEach true level wants n slot mask l l′ run other run₁ other₁ → merging ≡ true
+      → length run₁ ≡ length run → length other₁ ≡ length other → length run₂ ≡ length run₁ → length other₂ ≡ length other₁ → Regroups phase merging level wants n slot mask l l′ run other run₂ other₂
   unfolding regroups
   regroup-merged {l′} {run₁} {other₁} {run₂} {other₂} v c h lr lo lr′ lo′ = record {
     is = record {
       acts = λ b w.
-          let a : Account ℕ = accountOf (running level n l b) run other in
+          let a : Account ℕ = accountOf (running level wants n l b) run other in
           let ns : List ℕ = groupSizes (continues slot mask) (infos (a .rest)) in
           let m : Account ℕ = mergedEach true ns 0 a in
           let u = c .is .acts b (w .whole) in
@@ -62,7 +62,7 @@ module _ (slot mask : ℕ) (a : Account ℕ) where
   graphemes-turned h k = simp (h, k, refusing)
 
 module _ {slot : ℕ} (mask : ℕ) {b : Buffer} {merging : Bool} {level : ℕ} (el : level ≡ readLevel (b .level)) (em : merging ≡ eqb level 1) where
-  graphemes-on : OnKeyed Limits leftWith (λ capacity a. reverseGraphemes slot mask a) slot b (Regroups (b .phase) merging (b .level) (b .len .0) slot mask (b .limits))
+  graphemes-on : OnKeyed Limits leftWith (λ capacity a. reverseGraphemes slot mask a) slot b (Regroups (b .phase) merging (b .level) (b .wants) (b .len .0) slot mask (b .limits))
   graphemes-on = record {
     whole = record { refuses = λ capacity a h. graphemes-refused slot mask a h };
     refuses = λ capacity a h k. graphemes-bad slot mask a h k;
@@ -73,7 +73,7 @@ module _ {slot : ℕ} (mask : ℕ) {b : Buffer} {merging : Bool} {level : ℕ} (
   }
 
   pub graphemes-decided : {f s : List ℕ} {v : Verdict} → TakesKeyed slot b f s v
-      → DecidedBy Limits leftWith (λ capacity a. reverseGraphemes slot mask a) b f s v (RunRoom (b .len .0) f s) (Regroups (b .phase) merging (b .level) (b .len .0) slot mask (b .limits))
+      → DecidedBy Limits leftWith (λ capacity a. reverseGraphemes slot mask a) b f s v (RunRoom (b .len .0) f s) (Regroups (b .phase) merging (b .level) (b .wants) (b .len .0) slot mask (b .limits))
   graphemes-decided w = keyed-decided graphemes-on w
 
 -- for the proofs of functions

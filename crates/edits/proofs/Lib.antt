@@ -39,6 +39,7 @@ pub mod Renaming
 pub mod Replacements
 pub mod ReplaceCalls
 pub mod ReverseCalls
+pub mod Searching
 pub mod SetLengths
 pub mod SiftedRuns
 pub mod Siftings

@@ -66,7 +66,7 @@ record Part (h : List (Glyph ℕ) → List (Glyph ℕ)) (run other run′ other�
   pub run-is : glyphs run′ ≡ h (glyphs run)
   pub other-is : other′ ≡ other
 
-sided-as : {P Q : (run other run′ other′ : List ℕ) → Type 0} {x : Bool} {f g f′ g′ : List ℕ} → ((run other run′ other′ : List ℕ) → P run other run′ other′ → Q run other run′ other′) → Sided x P f g f′ g′ → Sided x Q f g f′ g′
+pub sided-as : {P Q : (run other run′ other′ : List ℕ) → Type 0} {x : Bool} {f g f′ g′ : List ℕ} → ((run other run′ other′ : List ℕ) → P run other run′ other′ → Q run other run′ other′) → Sided x P f g f′ g′ → Sided x Q f g f′ g′
 sided-as h w = record { first = λ e. h _ _ _ _ (w .first e); second = λ e. h _ _ _ _ (w .second e) }
 
 part-after : {h k : List (Glyph ℕ) → List (Glyph ℕ)} (x separate : Bool) {f g f₁ g₁ f′ g′ : List ℕ} → Sided (exchanged separate x) (Part h) f g f₁ g₁ → Sided x (Part k) f₁ g₁ f′ g′ → Sided x (OutMarked separate h k) f g f′ g′
@@ -102,16 +102,16 @@ as-flagged true separate interiorly level m bits idx outLen s e f g em w = sided
 as-flagged false separate interiorly level m bits idx outLen s e f g em w = sided-first refl (record { is = rw (← em) (w .first refl) })
 
 module _ {x separate out : Bool} {level bits idx outLen s e : ℕ} {f g f₁ g₁ f′ g′ : List ℕ} (eo : out ≡ exchanged separate x) where
-  pub out-interior : {m : ℕ} → m ≡ soughtIn x separate level idx outLen s e f g → Sided out (Marked level m bits s outLen) f g f₁ g₁ → Sided x (Marked level m bits idx e) f₁ g₁ f′ g′ → Sided x (OutFlagged separate true level bits idx outLen s e) f g f′ g′
+  pub out-interior : {m search : ℕ} → search ≡ level → m ≡ soughtIn x separate search idx outLen s e f g → Sided out (Marked search m bits s outLen) f g f₁ g₁ → Sided x (Marked search m bits idx e) f₁ g₁ f′ g′ → Sided x (OutFlagged separate true level bits idx outLen s e) f g f′ g′
   unfolding flaggedPart
-  out-interior {m} em p q = as-flagged x separate true level m bits idx outLen s e f g em (part-after x separate (rw eo at (sided-as (λ run other run′ other′ w. part w) p)) (sided-as (λ run other run′ other′ w. part w) q))
+  out-interior {m} {search} es em p q = rw (← es) (as-flagged x separate true search m bits idx outLen s e f g em (part-after x separate (rw eo at (sided-as (λ run other run′ other′ w. part w) p)) (sided-as (λ run other run′ other′ w. part w) q)))
     where
-      part : {i j : ℕ} {run other run′ other′ : List ℕ} → Marked level m bits i j run other run′ other′ → Part (interior level m bits i j) run other run′ other′
+      part : {i j : ℕ} {run other run′ other′ : List ℕ} → Marked search m bits i j run other run′ other′ → Part (interior search m bits i j) run other run′ other′
       part {i} {j} {run} {other} {run′} {other′} w = record { run-is = w .run-is; other-is = w .other-is }
 
-  pub out-all : Sided out (Flagged false level bits s outLen) f g f₁ g₁ → Sided x (Flagged false level bits idx e) f₁ g₁ f′ g′ → Sided x (OutFlagged separate false level bits idx outLen s e) f g f′ g′
-  unfolding flaggedPart flaggedRun
-  out-all p q = as-flagged x separate false level (soughtIn x separate level idx outLen s e f g) bits idx outLen s e f g refl (part-after x separate (rw eo at (sided-as (λ run other run′ other′ w. part w) p)) (sided-as (λ run other run′ other′ w. part w) q))
+  pub out-all : Sided out (Flagged false level bits s outLen) f g f₁ g₁ → Sided x (Flagged false level bits idx e) f₁ g₁ f′ g′ → Sided x (OutMarked separate (edit s outLen (flagged bits)) (edit idx e (flagged bits))) f g f′ g′
+  unfolding flaggedRun
+  out-all p q = part-after x separate (rw eo at (sided-as (λ run other run′ other′ w. part w) p)) (sided-as (λ run other run′ other′ w. part w) q)
     where
       part : {i j : ℕ} {run other run′ other′ : List ℕ} → Flagged false level bits i j run other run′ other′ → Part (edit i j (flagged bits)) run other run′ other′
       part {i} {j} {run} {other} {run′} {other′} w = record { run-is = w .run-is; other-is = w .other-is }
@@ -121,8 +121,9 @@ module _ {x separate interiorly : Bool} {level idx outLen s e : ℕ} {f g f′ g
   pub form-interior : interiorly ≡ true → Sided x (OutFlagged separate true level 3 idx outLen s e) f g f′ g′ → Sided x (OutFlagged separate interiorly level (cond interiorly 3 2) idx outLen s e) f g f′ g′
   form-interior h w = rw h w
 
-  pub form-all : interiorly ≡ false → Sided x (OutFlagged separate false level 2 idx outLen s e) f g f′ g′ → Sided x (OutFlagged separate interiorly level (cond interiorly 3 2) idx outLen s e) f g f′ g′
-  form-all h w = rw h w
+  pub form-all : interiorly ≡ false → Sided x (OutMarked separate (edit s outLen (flagged 2)) (edit idx e (flagged 2))) f g f′ g′ → Sided x (OutFlagged separate interiorly level (cond interiorly 3 2) idx outLen s e) f g f′ g′
+  unfolding flaggedPart
+  form-all h w = rw h (as-flagged x separate false level (soughtIn x separate level idx outLen s e f g) 2 idx outLen s e f g refl w)
 
 -- for the proofs of functions
 pub ruleset marking = (run-interior, run-short, run-all, flagged-is, marked-is, sought-none, marked-none, sought-second, sought-first, sought-both, input-range, out-interior, out-all, form-interior, form-all)

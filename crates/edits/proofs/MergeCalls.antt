@@ -6,17 +6,18 @@ use borrow.Author.Tests.{le-ltb, lt-ltb, ltb-false, eq-eqb, ne-eqb}
 use lib.{Dec.eqb, Dec.ltb, ListN.length, ListN.take, ListN.drop, Seq.slice}
 use Rattle.records.specs.{Phase, Plain, Output, Positions, Spoiled, InputPlace, Done, Limits, Glyphs.Glyph, Counters.capacityOf, Counters.costs, Ranges.clusters, View.glyphs, View.positionsIn, View.wordsFrom}
 use Rattle.records.proofs.View.{glyphs-same, whole-same, beyond-glyphs}
-use Rattle.lists.proofs.Changed.{account-limits, limits-limits, own-limits, state-own, state-paid, state-level, paid-size}
+use Rattle.lists.proofs.Changed.{account-limits, limits-limits, own-limits, state-own, state-paid, paid-size}
 use Rattle.lists.proofs.Showing.{on-shown, gone-in}
 use Rattle.lists.specs.{declared.Buffer.Buffer, declared.Reply.Reply}
 use Rattle.lists.specs.{Account.readLevel, Account.Account, Account.State, Account.outputPhase, Account.spoiledPhase, Account.withLimits, Account.accepted, Account.Result, Contract.shown, Contract.goneOf, Contract.stateOf, Contract.accountOf, inner.Held.Held, inner.States.reply, inner.States.withLimitsOf}
 use Rattle.lists.proofs.Sides.{MeetsIn}
 use Rattle.lists.proofs.{Accounts.len-of, Calls.in-accepted, Accounts.gone-of}
-use Rattle.edits.specs.{inner.Acts.Acts, inner.Acts.Mergeful, Flags.interior, Flags.sought, Flags.flagInterior, inner.Holding.holds, inner.Holding.cut, Merging.merged, Merging.graphemesMerge, Merging.outsideInput, inner.Plans.Mergeable, inner.Plans.mergePlan, inner.Plans.mergedRun, inner.Plans.mergedTail}
+use Rattle.edits.specs.{inner.Acts.Acts, inner.Acts.Mergeful, Flags.interior, Flags.searchLevel, Flags.sought, Flags.flagInterior, inner.Holding.holds, inner.Holding.cut, Merging.merged, Merging.graphemesMerge, Merging.outsideInput, inner.Plans.Mergeable, inner.Plans.mergePlan, inner.Plans.mergedRun, inner.Plans.mergedTail}
 use Rattle.edits.proofs.MergeForms.{InputRange, InputFrom, MergedApart, MergedWithin}
 use Rattle.lists.proofs.Outputs.{goneIn, shown-output}
 use Rattle.lists.proofs.Inner.{held-paid, limits-side}
 use Rattle.edits.proofs.MergeLaws.{mergeable, merged-within}
+use Rattle.edits.proofs.Searching.{searching, state-searching}
 use Rattle.edits.proofs.FlagLaws.{flagged-held, flagged-within, interior-behind}
 use Rattle.edits.proofs.Places.{paired-within, paired-flagged}
 use Rattle.edits.proofs.Holding.{behind-further}
@@ -94,7 +95,7 @@ module _ (run run′ other : List ℕ) {gone idx len outLen s e : ℕ} (w : Inpu
       → glyphs run′ ≡ mergedRun (mergePlan idx s e (cut len (glyphs run))) (mergedTail (mergePlan idx s e (cut len (glyphs run))) outLen (glyphs run)) → MergedWithin gone idx len outLen s e (shown p run other) (shown p run′ other)
   shown-merged p h v er = on-shown (λ x. MergedWithin gone idx len outLen s e (x run other) (x run′ other)) p h (merged-within v w low er) (paired-within v (positionsIn other) w low er)
 
-  shown-flagged : (p : Phase) → spoiledPhase p ≡ false → InputRange (glyphs run) (glyphs run) len outLen s e → (bits : ℕ) (k : State) (level : ℕ) → 2 ≤ e - s → k .level ≡ level
+  shown-flagged : (p : Phase) → spoiledPhase p ≡ false → InputRange (glyphs run) (glyphs run) len outLen s e → (bits : ℕ) (k : State) (level : ℕ) → 2 ≤ e - s → searching k ≡ level
       → glyphs run′ ≡ interior level (sought level (slice s e (clusters (glyphs run)))) bits s e (glyphs run)
       → holds (shown p run′ other) (shown p run′ other) gone idx len outLen k ≡ flagInterior bits (s - gone) (e - gone) (holds (shown p run other) (shown p run other) gone idx len outLen k)
   shown-flagged p h v bits k level two el er =
@@ -193,21 +194,21 @@ module _ {b : Buffer} {run other : List ℕ} {s e : ℕ} (v : Mergeful b s e run
   pub flag-room : 2 ≤ e - s → (s < e) × (e ≤ length (glyphs run))
   flag-room two = (omega arith, omega (arith, v .end, v .held .len-in, v .held .all-in))
 
-  module _ (bits : ℕ) (run′ : List ℕ) (two : 2 ≤ e - s) (eg : glyphs run′ ≡ interior (readLevel (b .level)) (sought (readLevel (b .level)) (slice s e (clusters (glyphs run)))) bits s e (glyphs run)) where
+  module _ (bits : ℕ) (run′ : List ℕ) (two : 2 ≤ e - s) (eg : glyphs run′ ≡ interior (searchLevel (readLevel (b .level)) (b .wants)) (sought (searchLevel (readLevel (b .level)) (b .wants)) (slice s e (clusters (glyphs run)))) bits s e (glyphs run)) where
     pub flag-is : accountOf b run′ other ≡ flagInterior bits (s - goneOf b) (e - goneOf b) (accountOf b run other)
     flag-is = by-place (outputPhase (b .phase) && b .«have_separate_output») refl
       where
         by-place : (x : Bool) → (outputPhase (b .phase) && b .«have_separate_output») ≡ x → accountOf b run′ other ≡ flagInterior bits (s - goneOf b) (e - goneOf b) (accountOf b run other)
         by-place true h =
             own-apart b run′ other h
-            ∙ (flagged-held range-apart from-gone bits (stateOf b) (readLevel (b .level)) (glyphs other) two (state-level b) eg refl ∙ ap (flagInterior bits (s - goneOf b) (e - goneOf b)) (sym (own-apart b run other h)))
+            ∙ (flagged-held range-apart from-gone bits (stateOf b) (searchLevel (readLevel (b .level)) (b .wants)) (glyphs other) two (state-searching b) eg refl ∙ ap (flagInterior bits (s - goneOf b) (e - goneOf b)) (sym (own-apart b run other h)))
         by-place false h =
             own-within b run′ other h (v .held .none)
-            ∙ (shown-flagged run run′ other from-gone (out-low h) (b .phase) (v .whole) range-within bits (stateOf b) (readLevel (b .level)) two (state-level b) eg
+            ∙ (shown-flagged run run′ other from-gone (out-low h) (b .phase) (v .whole) range-within bits (stateOf b) (searchLevel (readLevel (b .level)) (b .wants)) two (state-searching b) eg
             ∙ ap (flagInterior bits (s - goneOf b) (e - goneOf b)) (sym (own-within b run other h (v .held .none))))
 
     pub flag-behind : drop (b .len .0) (glyphs run′) ≡ drop (b .len .0) (glyphs run)
-    flag-behind = rw eg (interior-behind (readLevel (b .level)) (sought (readLevel (b .level)) (slice s e (clusters (glyphs run)))) bits (b .len .0) s e (glyphs run) (v .order) (flag-room two .1) (v .end))
+    flag-behind = rw eg (interior-behind (searchLevel (readLevel (b .level)) (b .wants)) (sought (searchLevel (readLevel (b .level)) (b .wants)) (slice s e (clusters (glyphs run)))) bits (b .len .0) s e (glyphs run) (v .order) (flag-room two .1) (v .end))
 
 -- ---- the tests of a call
 module _ (b : Buffer) where

@@ -14,7 +14,7 @@ use Rattle.lists.proofs.Decisions.{near-limits, leaves-as, decided-unsound, dec
 use Rattle.lists.proofs.SoundLaws.{soundness}
 use Rattle.lists.proofs.Refusing.{refusing}
 use Rattle.records.proofs.Tests.{tested}
-use Rattle.edits.specs.{inner.Acts.Acts, inner.Acts.Mergeful, inner.Charges.running, inner.Charges.MergesRun, Flags.interior, Flags.sought, Merging.merge, Merging.merged, Merging.mergeInput, Merging.outsideInput, Merging.clustersMerge, Merging.graphemesMerge, inner.Plans.WrittenApart, inner.Plans.WrittenWithin}
+use Rattle.edits.specs.{inner.Acts.Acts, inner.Acts.Mergeful, inner.Charges.running, inner.Charges.MergesRun, Flags.interior, Flags.searchLevel, Flags.sought, Merging.merge, Merging.merged, Merging.mergeInput, Merging.outsideInput, Merging.clustersMerge, Merging.graphemesMerge, inner.Plans.WrittenApart, inner.Plans.WrittenWithin}
 use Rattle.edits.specs.inner.MergeActs.{mergeLimits, liesApart, MergeRoom, Merges, MergesInput}
 use Rattle.edits.proofs.{Chaining.acts-as, MergeLaws.merged-apart, MergeLaws.merged-within, WholeInputs.whole-gone}
 use Rattle.edits.proofs.Charging.{limits-running}
@@ -56,7 +56,7 @@ module _ {b : Buffer} {run other : List ℕ} {s e : ℕ} (v : Mergeful b s e run
     unfolding merge
     at-over h far = free (limits-free merges (e - s) (b .limits) h) refl refl (rw (width v, le-ltb (e - s) 2 two, h, lt-ltb 255 (e - s) far))
 
-    at-flag : {run′ : List ℕ} → merges ≡ false → e - s ≤ 255 → length run′ ≡ length run → glyphs run′ ≡ interior (readLevel (b .level)) (sought (readLevel (b .level)) (slice s e (clusters (glyphs run)))) 3 s e (glyphs run) → Merged run′ other
+    at-flag : {run′ : List ℕ} → merges ≡ false → e - s ≤ 255 → length run′ ≡ length run → glyphs run′ ≡ interior (searchLevel (readLevel (b .level)) (b .wants)) (sought (searchLevel (readLevel (b .level)) (b .wants)) (slice s e (clusters (glyphs run)))) 3 s e (glyphs run) → Merged run′ other
     unfolding merge
     at-flag {run′} h near lr eg = free (limits-free merges (e - s) (b .limits) h) lr (flag-behind v 3 run′ two eg) (flag-is v 3 run′ two eg ∙ rw (width v, le-ltb (e - s) 2 two, h, le-ltb 255 (e - s) near))
 
@@ -76,40 +76,40 @@ module _ {b : Buffer} {run other : List ℕ} {s e : ℕ} (v : Mergeful b s e run
     at-within {run′} h a lr w = let m = merged-within (ready-within v two) (from-gone v) (out-low v a) (w .is) in costly h lr refl (m .behind) refl (within-is v run′ a two (w .is))
 
 -- ---- the act
-module _ {x apart merges : Bool} {level idx len outLen s e : ℕ} {f g : List ℕ} where
-  nothing : ((run other : List ℕ) → Merges apart merges level idx len outLen s e run other run other) → Sided x (Merges apart merges level idx len outLen s e) f g f g
+module _ {x apart merges : Bool} {level wants idx len outLen s e : ℕ} {f g : List ℕ} where
+  nothing : ((run other : List ℕ) → Merges apart merges level wants idx len outLen s e run other run other) → Sided x (Merges apart merges level wants idx len outLen s e) f g f g
   nothing w = record { first = λ z. w f g; second = λ z. w g f }
 
-  pub merges-few : e - s < 2 → Sided x (Merges apart merges level idx len outLen s e) f g f g
+  pub merges-few : e - s < 2 → Sided x (Merges apart merges level wants idx len outLen s e) f g f g
   merges-few few = nothing (λ run other. record { acts = λ b a v. at-none v merges few; apart-only = λ z. refl })
 
-  pub merges-far : 2 ≤ e - s → merges ≡ false → 255 < e - s → Sided x (Merges apart merges level idx len outLen s e) f g f g
+  pub merges-far : 2 ≤ e - s → merges ≡ false → 255 < e - s → Sided x (Merges apart merges level wants idx len outLen s e) f g f g
   merges-far two h far = nothing (λ run other. record { acts = λ b a v. at-over v merges two h far; apart-only = λ z. refl })
 
-module _ {apart merges : Bool} {level idx len outLen s e : ℕ} {run other run′ other′ : List ℕ} (two : 2 ≤ e - s) where
-  pub merges-apart : merges ≡ true → apart ≡ true → length run′ ≡ length run → length other′ ≡ length other → WrittenApart idx len outLen s e (glyphs run) (glyphs other) (glyphs run′) (glyphs other′) → Merges apart merges level idx len outLen s e run other run′ other′
+module _ {apart merges : Bool} {level wants idx len outLen s e : ℕ} {run other run′ other′ : List ℕ} (two : 2 ≤ e - s) where
+  pub merges-apart : merges ≡ true → apart ≡ true → length run′ ≡ length run → length other′ ≡ length other → WrittenApart idx len outLen s e (glyphs run) (glyphs other) (glyphs run′) (glyphs other′) → Merges apart merges level wants idx len outLen s e run other run′ other′
   merges-apart h k lr lo w = record { acts = λ b a v. at-apart v merges two h (a ∙ k) lr lo w; apart-only = λ z. absurd (false≢true (sym z ∙ k)) }
 
-module _ {apart merges : Bool} {level idx len outLen s e : ℕ} {run other run′ : List ℕ} (two : 2 ≤ e - s) where
-  pub merges-within : merges ≡ true → apart ≡ false → length run′ ≡ length run → WrittenWithin idx len outLen s e (glyphs run) (glyphs run′) → Merges apart merges level idx len outLen s e run other run′ other
+module _ {apart merges : Bool} {level wants idx len outLen s e : ℕ} {run other run′ : List ℕ} (two : 2 ≤ e - s) where
+  pub merges-within : merges ≡ true → apart ≡ false → length run′ ≡ length run → WrittenWithin idx len outLen s e (glyphs run) (glyphs run′) → Merges apart merges level wants idx len outLen s e run other run′ other
   merges-within h k lr w = record { acts = λ b a v. at-within v merges two h (a ∙ k) lr w; apart-only = λ z. refl }
 
-  pub merges-flags : merges ≡ false → e - s ≤ 255 → length run′ ≡ length run → glyphs run′ ≡ interior (readLevel level) (sought (readLevel level) (slice s e (clusters (glyphs run)))) 3 s e (glyphs run) → Merges apart merges level idx len outLen s e run other run′ other
-  merges-flags h near lr eg = record { acts = λ b a v. at-flag v merges two h near lr eg; apart-only = λ z. refl }
+  pub merges-flags : {search : ℕ} → search ≡ searchLevel (readLevel level) wants → merges ≡ false → e - s ≤ 255 → length run′ ≡ length run → glyphs run′ ≡ interior search (sought search (slice s e (clusters (glyphs run)))) 3 s e (glyphs run) → Merges apart merges level wants idx len outLen s e run other run′ other
+  merges-flags es h near lr eg = record { acts = λ b a v. at-flag v merges two h near lr (rw es at eg); apart-only = λ z. refl }
 
 -- at the places of a buffer
 pub room-of : {b : Buffer} {s e : ℕ} {run other : List ℕ} → Mergeful b s e run other → MergeRoom (b .len .0) (b .«out_len» .0) s e run other
 room-of {b} {s} {e} {run} {other} v = record { order = v .order; end = v .end; fits = omega (arith, v .held .len-in, v .held .all-in); out-fits = omega (arith, v .held .out-in, v .held .all-in); same = glyphs-same run other (v .held .same) }
 
 -- of a whole run
-pub run-merges : {merges : Bool} {level n s e : ℕ} {run other run′ other′ : List ℕ} → Sided false (Merges false merges level 0 n 0 s e) run other run′ other′ → MergeRoom n 0 s e run other → MergesRun merges level n s e run other run′ other′
-run-merges {merges} {level} {n} {s} {e} {run} {other} {run′} {other′} w m = record {
+pub run-merges : {merges : Bool} {level wants n s e : ℕ} {run other run′ other′ : List ℕ} → Sided false (Merges false merges level wants 0 n 0 s e) run other run′ other′ → MergeRoom n 0 s e run other → MergesRun merges level wants n s e run other run′ other′
+run-merges {merges} {level} {wants} {n} {s} {e} {run} {other} {run′} {other′} w m = record {
   is = λ l. record {
     acts = λ b v.
-        let y = running level n l b in
+        let y = running level wants n l b in
         let gone : goneOf y ≡ 0 = whole-gone v in
         let u : Acts (merge merges (s - goneOf y) (e - goneOf y)) y run other (withLimitsOf (mergeLimits merges (e - s) l) y) run′ other′ = w .first refl .acts y (rw (v .plain)) (record { held = v .held; whole = v .clean; start = omega (arith, gone); order = m .order; end = m .end }) in
-        acts-as (rw (limits-running level n l (mergeLimits merges (e - s) l) b) at u) (ap (λ (k : ℕ). merge merges (s - k) (e - k) (accountOf y run other)) gone ∙ rw (sub-zero s, sub-zero e));
+        acts-as (rw (limits-running level wants n l (mergeLimits merges (e - s) l) b) at u) (ap (λ (k : ℕ). merge merges (s - k) (e - k) (accountOf y run other)) gone ∙ rw (sub-zero s, sub-zero e));
   };
 }
 
@@ -165,7 +165,7 @@ module _ {merges : Bool} {s e : InputPlace} {b : Buffer} {f g : List ℕ} {v : V
 
   module _ {apart : Bool} (ea : apart ≡ liesApart b) where
     abbrev InputDecided : (ℕ → Bool) → Type 0
-    InputDecided at = Decided (λ capacity a. mergeInput at s e a) b f g (settled b v) (v .acts) (MergeRoom (b .len .0) (b .«out_len» .0) (s .0) (e .0) f g) (Merges apart merges (b .level) (b .idx .0) (b .len .0) (b .«out_len» .0) (s .0) (e .0))
+    InputDecided at = Decided (λ capacity a. mergeInput at s e a) b f g (settled b v) (v .acts) (MergeRoom (b .len .0) (b .«out_len» .0) (s .0) (e .0) f g) (Merges apart merges (b .level) (b .wants) (b .idx .0) (b .len .0) (b .«out_len» .0) (s .0) (e .0))
 
     pub input-clusters : merges ≡ clustersMerge (readLevel (b .level)) → InputDecided (λ level. clustersMerge level)
     input-clusters em = w .is (λ level. clustersMerge level) em apart ea

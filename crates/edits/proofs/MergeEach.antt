@@ -11,7 +11,7 @@ use Rattle.lists.specs.{Account.readLevel, Account.Account, Account.input, Acco
 use Rattle.lists.proofs.{Accounts.level-of, Infos.words-drop, Infos.words-edit}
 use Rattle.lists.proofs.Refusing.{refusing}
 use Rattle.edits.specs.{inner.Acts.Acts, inner.Charges.leftWith, inner.Charges.DecidedBy, inner.Charges.running, inner.Charges.MergesRun, inner.Charges.MergesEach, inner.Charges.TakesKeyed, Flags.interior, Flags.sought, Flags.flagInterior, Groups.groupSizes, Groups.continues, Groups.mergedEach, Groups.formClusters, Merging.merge, Merging.merged, Merging.mergeStart, Merging.mergeEnd, Merging.graphemesMerge, inner.MergeActs.mergeLimits, inner.MergeActs.MergeRoom, WholeRun.notWhole, inner.Wholes.WholeInput, inner.Wholes.RunRoom}
-use Rattle.edits.proofs.{Chaining.acts-as, Chaining.acts-then, Charging.OnKeyed, Charging.charges-acts, Charging.settles-left, Charging.keyed-decided, Charging.whole-after, MergeCalls.in-acts, MergeLaws.merge-order, WholeCalls.whole-room, WholeCalls.room-lengths, WholeInputs.account-whole, WholeInputs.not-not-whole, GroupLaws.Group, GroupLaws.no-group, GroupLaws.grapheme-group, GroupLaws.graphemes-same}
+use Rattle.edits.proofs.{Chaining.acts-as, Chaining.acts-then, Searching.searching, Charging.OnKeyed, Charging.charges-acts, Charging.settles-left, Charging.keyed-decided, Charging.whole-after, MergeCalls.in-acts, MergeLaws.merge-order, WholeCalls.whole-room, WholeCalls.room-lengths, WholeInputs.account-whole, WholeInputs.not-not-whole, GroupLaws.Group, GroupLaws.no-group, GroupLaws.grapheme-group, GroupLaws.graphemes-same}
 
 -- ---- the edits
 module _ {G : Type 0} (slot mask : ℕ) where
@@ -52,9 +52,9 @@ module _ {G : Type 0} (slot mask : ℕ) where
   unfolding flagInterior
   keys-flagged bits s e a o = pick (ltb (e - s) 2)
     where
-      pick : (b : Bool) → keys ((cond b a (withInput (interior (a .state .level) (sought (a .state .level) (slice s e (clusters (input a)))) bits s e (input a)) a)) .rest) ≡ keys (a .rest)
+      pick : (b : Bool) → keys ((cond b a (withInput (interior (searching (a .state)) (sought (searching (a .state)) (slice s e (clusters (input a)))) bits s e (input a)) a)) .rest) ≡ keys (a .rest)
       pick true = refl
-      pick false = keys-input (interior (a .state .level) (sought (a .state .level) (slice s e (clusters (input a)))) bits s e (input a)) a (keys-interior (a .state .level) (sought (a .state .level) (slice s e (clusters (input a)))) bits s e (input a) o)
+      pick false = keys-input (interior (searching (a .state)) (sought (searching (a .state)) (slice s e (clusters (input a)))) bits s e (input a)) a (keys-interior (searching (a .state)) (sought (searching (a .state)) (slice s e (clusters (input a)))) bits s e (input a) o)
 
   -- THE LAW: a merge keeps keys
   pub keys-merge : (merges : Bool) (s e : ℕ) (a : Account G) → s ≤ e → keys ((merge merges s e a) .rest) ≡ keys (a .rest)
@@ -68,19 +68,19 @@ module _ {G : Type 0} (slot mask : ℕ) where
       pick false false false = keys-flagged 3 s e a o
 
 -- ---- the loop: graphemes before s are merged, those from s on are still to be
-pub record Each (merges : Bool) (slot mask level n : ℕ) (l₀ : Limits) (run₀ other₀ : List ℕ) (l : Limits) (run other : List ℕ) (s : ℕ) (b : Buffer) : Type 0 where
-  pub whole : WholeInput (running level n l b) run other
-  pub acts : Acts (λ a. accountOf (running level n l b) run other) (running level n l₀ b) run₀ other₀ (running level n l b) run other
-  pub is : mergedEach merges (groupSizes (continues slot mask) (drop s (infos ((accountOf (running level n l b) run other) .rest)))) s (accountOf (running level n l b) run other)
-      ≡ mergedEach merges (groupSizes (continues slot mask) (infos ((accountOf (running level n l₀ b) run₀ other₀) .rest))) 0 (accountOf (running level n l₀ b) run₀ other₀)
+pub record Each (merges : Bool) (slot mask level wants n : ℕ) (l₀ : Limits) (run₀ other₀ : List ℕ) (l : Limits) (run other : List ℕ) (s : ℕ) (b : Buffer) : Type 0 where
+  pub whole : WholeInput (running level wants n l b) run other
+  pub acts : Acts (λ a. accountOf (running level wants n l b) run other) (running level wants n l₀ b) run₀ other₀ (running level wants n l b) run other
+  pub is : mergedEach merges (groupSizes (continues slot mask) (drop s (infos ((accountOf (running level wants n l b) run other) .rest)))) s (accountOf (running level wants n l b) run other)
+      ≡ mergedEach merges (groupSizes (continues slot mask) (infos ((accountOf (running level wants n l₀ b) run₀ other₀) .rest))) 0 (accountOf (running level wants n l₀ b) run₀ other₀)
 
 -- on every buffer whose run lies here
-pub record EachOf (merges : Bool) (slot mask level n : ℕ) (l₀ : Limits) (run₀ other₀ : List ℕ) (l : Limits) (run other : List ℕ) (s : ℕ) : Type 0 where
+pub record EachOf (merges : Bool) (slot mask level wants n : ℕ) (l₀ : Limits) (run₀ other₀ : List ℕ) (l : Limits) (run other : List ℕ) (s : ℕ) : Type 0 where
   pub room : RunRoom n run other
   pub same-run : length run ≡ length run₀
   pub same-other : length other ≡ length other₀
   pub high : s ≤ n
-  pub each : (b : Buffer) → WholeInput (running level n l₀ b) run₀ other₀ → Each merges slot mask level n l₀ run₀ other₀ l run other s b
+  pub each : (b : Buffer) → WholeInput (running level wants n l₀ b) run₀ other₀ → Each merges slot mask level wants n l₀ run₀ other₀ l run other s b
 
 one-merge : (merges : Bool) (n : ℕ) (ns : List ℕ) (s : ℕ) (x : Account ℕ) → mergedEach merges (n ∷ ns) s x ≡ mergedEach merges ns (s + n) (merge merges s (s + n) x)
 unfolding mergedEach
@@ -90,19 +90,19 @@ no-merge : (merges : Bool) (s : ℕ) (x : Account ℕ) → mergedEach merges [] 
 unfolding mergedEach
 no-merge merges s x = refl
 
-module _ {merges : Bool} {slot mask level n : ℕ} {l₀ l : Limits} {run₀ other₀ run other : List ℕ} {s : ℕ} {b : Buffer} (v : Each merges slot mask level n l₀ run₀ other₀ l run other s b) where
-  rest-is : (accountOf (running level n l b) run other) .rest ≡ take n (shown (b .phase) run other)
+module _ {merges : Bool} {slot mask level wants n : ℕ} {l₀ l : Limits} {run₀ other₀ run other : List ℕ} {s : ℕ} {b : Buffer} (v : Each merges slot mask level wants n l₀ run₀ other₀ l run other s b) where
+  rest-is : (accountOf (running level wants n l b) run other) .rest ≡ take n (shown (b .phase) run other)
   rest-is = ap (λ (a : Account ℕ). a .rest) (account-whole (v .whole))
 
   fits : n ≤ length (glyphs run)
   fits = whole-room (v .whole) .fits
 
   one-more : {e : ℕ} {l′ : Limits} {run′ other′ : List ℕ} → length run ≡ length run₀ → length other ≡ length other₀ → length run′ ≡ length run → length other′ ≡ length other → Group (continues slot mask) (shown (b .phase) run other) n s e
-      → Acts (merge merges s e) (running level n l b) run other (running level n l′ b) run′ other′ → Each merges slot mask level n l₀ run₀ other₀ l′ run′ other′ e b
+      → Acts (merge merges s e) (running level wants n l b) run other (running level wants n l′ b) run′ other′ → Each merges slot mask level wants n l₀ run₀ other₀ l′ run′ other′ e b
   one-more {e} {l′} {run′} {other′} mr mo lr lo g u =
       let P : Info → Info → Bool = continues slot mask in
-      let a : Account ℕ = accountOf (running level n l b) run other in
-      let a′ : Account ℕ = accountOf (running level n l′ b) run′ other′ in
+      let a : Account ℕ = accountOf (running level wants n l b) run other in
+      let a′ : Account ℕ = accountOf (running level wants n l′ b) run′ other′ in
       let after : s < e = g .after in
       let order : s ≤ e = omega arith in
       let on : s + (e - s) ≡ e = omega arith in
@@ -119,15 +119,15 @@ module _ {merges : Bool} {slot mask level n : ℕ} {l₀ l : Limits} {run₀ oth
             ∙ (sym turned ∙ v .is));
       }
 
-  all-done : s ≡ n → Acts (λ a. mergedEach merges (groupSizes (continues slot mask) (infos (a .rest))) 0 a) (running level n l₀ b) run₀ other₀ (running level n l b) run other
+  all-done : s ≡ n → Acts (λ a. mergedEach merges (groupSizes (continues slot mask) (infos (a .rest))) 0 a) (running level wants n l₀ b) run₀ other₀ (running level wants n l b) run other
   all-done end =
       let P : Info → Info → Bool = continues slot mask in
-      let a : Account ℕ = accountOf (running level n l b) run other in
+      let a : Account ℕ = accountOf (running level wants n l b) run other in
       let none : groupSizes P (drop s (infos (a .rest))) ≡ [] = rw (rest-is, end) (no-group (b .phase) run other (v .whole .clean) fits P) in
       acts-as (v .acts) (sym (ap (λ (ns : List ℕ). mergedEach merges ns s a) none ∙ no-merge merges s a) ∙ v .is)
 
-module _ {merges : Bool} {slot mask level n : ℕ} {l₀ : Limits} {run₀ other₀ : List ℕ} where
-  pub each-none : RunRoom n run₀ other₀ → EachOf merges slot mask level n l₀ run₀ other₀ l₀ run₀ other₀ 0
+module _ {merges : Bool} {slot mask level wants n : ℕ} {l₀ : Limits} {run₀ other₀ : List ℕ} where
+  pub each-none : RunRoom n run₀ other₀ → EachOf merges slot mask level wants n l₀ run₀ other₀ l₀ run₀ other₀ 0
   each-none r = record {
     room = r;
     same-run = refl;
@@ -136,7 +136,7 @@ module _ {merges : Bool} {slot mask level n : ℕ} {l₀ : Limits} {run₀ other
     each = λ b w. record { whole = w; acts = record { is = refl; size = refl; side = refl; run-beyond = refl; other-beyond = refl; held = w .held }; is = refl };
   }
 
-  module _ {l : Limits} {run other : List ℕ} {s : ℕ} (v : EachOf merges slot mask level n l₀ run₀ other₀ l run other s) where
+  module _ {l : Limits} {run other : List ℕ} {s : ℕ} (v : EachOf merges slot mask level wants n l₀ run₀ other₀ l run other s) where
     module _ {e : ℕ} (o : s < n) (ee : e ≡ s + 1 + heads (isnt 0) (slice (s + 1) n (map (key slot mask) (infos (glyphs run))))) where
       -- whatever the phase
       inside : Group (continues slot mask) (shown Plain run other) n s e
@@ -148,7 +148,7 @@ module _ {merges : Bool} {slot mask level n : ℕ} {l₀ : Limits} {run₀ other
       pub each-less : n - e < n - s
       each-less = omega (arith, inside .after, inside .inside)
 
-      pub each-more : {l′ : Limits} {run′ other′ : List ℕ} → MergesRun merges level n s e run other run′ other′ → l′ ≡ mergeLimits merges (e - s) l → length run′ ≡ length run → length other′ ≡ length other → EachOf merges slot mask level n l₀ run₀ other₀ l′ run′ other′ e
+      pub each-more : {l′ : Limits} {run′ other′ : List ℕ} → MergesRun merges level wants n s e run other run′ other′ → l′ ≡ mergeLimits merges (e - s) l → length run′ ≡ length run → length other′ ≡ length other → EachOf merges slot mask level wants n l₀ run₀ other₀ l′ run′ other′ e
       each-more {l′} {run′} {other′} c el lr lo = record {
         room = room-lengths (v .room) lr lo;
         same-run = lr ∙ v .same-run;
@@ -159,7 +159,7 @@ module _ {merges : Bool} {slot mask level n : ℕ} {l₀ : Limits} {run₀ other
             one-more u (v .same-run) (v .same-other) lr lo (grapheme-group (b .phase) run other (u .whole .clean) (v .room .fits) slot mask o ee) (rw el (c .is l .acts b (u .whole)));
       }
 
-    pub each-done : n ≤ s → MergesEach merges level n slot mask l₀ l run₀ other₀ run other
+    pub each-done : n ≤ s → MergesEach merges level wants n slot mask l₀ l run₀ other₀ run other
     each-done o = record { is = record { acts = λ b w. all-done (v .each b w) (omega (arith, v .high)) } }
 
 -- ---- call 22
@@ -177,7 +177,7 @@ module _ (slot mask : ℕ) (a : Account ℕ) where
   forms h k = simp (h, k, refusing)
 
 module _ {slot : ℕ} (mask : ℕ) {b : Buffer} {merging : Bool} (em : merging ≡ graphemesMerge (readLevel (b .level))) where
-  form-on : OnKeyed Limits leftWith (λ capacity a. formClusters slot mask a) slot b (MergesEach merging (b .level) (b .len .0) slot mask (b .limits))
+  form-on : OnKeyed Limits leftWith (λ capacity a. formClusters slot mask a) slot b (MergesEach merging (b .level) (b .wants) (b .len .0) slot mask (b .limits))
   form-on = record {
     whole = record { refuses = λ capacity a h. form-not-whole slot mask a h };
     refuses = λ capacity a h k. form-bad slot mask a h k;
@@ -188,7 +188,7 @@ module _ {slot : ℕ} (mask : ℕ) {b : Buffer} {merging : Bool} (em : merging �
   }
 
   pub form-decided : {f s : List ℕ} {v : Verdict} → TakesKeyed slot b f s v
-      → DecidedBy Limits leftWith (λ capacity a. formClusters slot mask a) b f s v (RunRoom (b .len .0) f s) (MergesEach merging (b .level) (b .len .0) slot mask (b .limits))
+      → DecidedBy Limits leftWith (λ capacity a. formClusters slot mask a) b f s v (RunRoom (b .len .0) f s) (MergesEach merging (b .level) (b .wants) (b .len .0) slot mask (b .limits))
   form-decided w = keyed-decided form-on w
 
 -- for the proofs of functions

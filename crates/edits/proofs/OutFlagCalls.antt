@@ -12,12 +12,12 @@ use Rattle.lists.proofs.{Accounts.output-of, Accounts.out-of, Accounts.idx-of, 
 use Rattle.lists.proofs.SoundLaws.{soundness}
 use Rattle.lists.proofs.Refusing.{refusing}
 use Rattle.records.proofs.Tests.{tested}
-use Rattle.lists.proofs.Changed.{state-level}
 use Rattle.edits.specs.{declared.InputBound.InputBound, declared.DoneBound.DoneBound}
-use Rattle.edits.specs.{inner.Acts.Acts, Flags.inputBound, inner.BoundNumbers.inputNumber, Flags.doneBound, inner.BoundNumbers.doneNumber, Flags.placeNumber, Flags.tooFar, Flags.startOf, Flags.endOf, Flags.outbufferForm, Flags.wantsConcat, inner.Marks.flaggedPart, inner.Marks.soughtOut, inner.Marks.flagOut, inner.Marks.OutFlaggable, inner.Marks.OutFlagged, inner.Marks.FlagsOut}
+use Rattle.edits.specs.{inner.Acts.Acts, Flags.inputBound, inner.BoundNumbers.inputNumber, Flags.doneBound, inner.BoundNumbers.doneNumber, Flags.placeNumber, Flags.searchLevel, Flags.tooFar, Flags.startOf, Flags.endOf, Flags.outbufferForm, Flags.wantsConcat, inner.Marks.flaggedPart, inner.Marks.soughtOut, inner.Marks.flagOut, inner.Marks.OutFlaggable, inner.Marks.OutFlagged, inner.Marks.FlagsOut}
 use Rattle.edits.proofs.MergeForms.{OutRange}
 use Rattle.edits.proofs.BoundLaws.{end-most}
 use Rattle.edits.proofs.FlagCalls.{idle-of, end-of}
+use Rattle.edits.proofs.Searching.{state-searching}
 use Rattle.edits.proofs.OutFlags.{part-behind, middle-fits, out-flagged-apart, out-flagged-within}
 use Rattle.edits.proofs.MergeCalls.{acts-both, in-acts, neither-left, neither-right}
 use Rattle.edits.proofs.OutCalls.{own-out-apart, own-out-within}
@@ -46,33 +46,33 @@ module _ {b : Buffer} {s e : ℕ} {run other : List ℕ} (v : Placed b s e run o
   out-flaggable = record { order = v .order; start = v .start; same = glyphs-same run other (v .held .same); out-fits = flags-within .out-fits; fits = end-fits }
 
   out-acts : (interiorly : Bool) (bits : ℕ) {run′ other′ : List ℕ} → length run′ ≡ length run → length other′ ≡ length other
-      → OutFlagged (b .«have_separate_output») interiorly (readLevel (b .level)) bits (b .idx .0) (b .«out_len» .0) s e run other run′ other′ → Acts (flagOut interiorly bits s (e - b .idx .0)) b run other b run′ other′
+      → OutFlagged (b .«have_separate_output») interiorly (searchLevel (readLevel (b .level)) (b .wants)) bits (b .idx .0) (b .«out_len» .0) s e run other run′ other′ → Acts (flagOut interiorly bits s (e - b .idx .0)) b run other b run′ other′
   out-acts interiorly bits {run′} {other′} lr lo w = by-place (b .«have_separate_output») refl
     where
       m : ℕ
-      m = soughtOut (readLevel (b .level)) s (b .«out_len» .0) (b .idx .0) e (glyphs run) (cond (b .«have_separate_output») (glyphs other) (glyphs run))
+      m = soughtOut (searchLevel (readLevel (b .level)) (b .wants)) s (b .«out_len» .0) (b .idx .0) e (glyphs run) (cond (b .«have_separate_output») (glyphs other) (glyphs run))
 
-      m-is : (x : Bool) → b .«have_separate_output» ≡ x → m ≡ soughtOut (readLevel (b .level)) s (b .«out_len» .0) (b .idx .0) e (glyphs run) (cond x (glyphs other) (glyphs run))
-      m-is x h = ap (λ (y : Bool). soughtOut (readLevel (b .level)) s (b .«out_len» .0) (b .idx .0) e (glyphs run) (cond y (glyphs other) (glyphs run))) h
+      m-is : (x : Bool) → b .«have_separate_output» ≡ x → m ≡ soughtOut (searchLevel (readLevel (b .level)) (b .wants)) s (b .«out_len» .0) (b .idx .0) e (glyphs run) (cond x (glyphs other) (glyphs run))
+      m-is x h = ap (λ (y : Bool). soughtOut (searchLevel (readLevel (b .level)) (b .wants)) s (b .«out_len» .0) (b .idx .0) e (glyphs run) (cond y (glyphs other) (glyphs run))) h
 
       by-place : (x : Bool) → b .«have_separate_output» ≡ x → Acts (flagOut interiorly bits s (e - b .idx .0)) b run other b run′ other′
       by-place true h =
           let g = w .is .apart h in
           acts-both (v .held) (flagOut interiorly bits s (e - b .idx .0)) lr lo
-          (rw (g .0) (part-behind interiorly (readLevel (b .level)) m bits (b .len .0) (b .idx .0) e (glyphs run) (v .start) end-fits (v .end)))
-          (rw (g .1) (part-behind interiorly (readLevel (b .level)) m bits (b .«out_len» .0) s (b .«out_len» .0) (glyphs other) (v .order) (flags-apart .out-fits) (omega arith)))
+          (rw (g .0) (part-behind interiorly (searchLevel (readLevel (b .level)) (b .wants)) m bits (b .len .0) (b .idx .0) e (glyphs run) (v .start) end-fits (v .end)))
+          (rw (g .1) (part-behind interiorly (searchLevel (readLevel (b .level)) (b .wants)) m bits (b .«out_len» .0) s (b .«out_len» .0) (glyphs other) (v .order) (flags-apart .out-fits) (omega arith)))
           (own-out-apart b run′ other′ (v .output) h
-          ∙ (out-flagged-apart flags-apart interiorly bits (stateOf b) (readLevel (b .level)) (state-level b) (m-is true h) (g .0) (g .1) ∙ ap (flagOut interiorly bits s (e - b .idx .0)) (sym (own-out-apart b run other (v .output) h))))
+          ∙ (out-flagged-apart flags-apart interiorly bits (stateOf b) (searchLevel (readLevel (b .level)) (b .wants)) (state-searching b) (m-is true h) (g .0) (g .1) ∙ ap (flagOut interiorly bits s (e - b .idx .0)) (sym (own-out-apart b run other (v .output) h))))
       by-place false h =
           let g = w .is .within h in
           let low : b .«out_len» .0 ≤ b .idx .0 = v .held .behind (v .output) h in
-          let mid : List (Glyph ℕ) = flaggedPart interiorly (readLevel (b .level)) m bits s (b .«out_len» .0) (glyphs run) in
+          let mid : List (Glyph ℕ) = flaggedPart interiorly (searchLevel (readLevel (b .level)) (b .wants)) m bits s (b .«out_len» .0) (glyphs run) in
           acts-both (v .held) (flagOut interiorly bits s (e - b .idx .0)) lr lo
-          (rw (g .0) (part-behind interiorly (readLevel (b .level)) m bits (b .len .0) (b .idx .0) e mid (v .start) (omega (arith, v .end, middle-fits flags-within low interiorly (readLevel (b .level)) m bits)) (v .end)
-          ∙ part-behind interiorly (readLevel (b .level)) m bits (b .len .0) s (b .«out_len» .0) (glyphs run) (v .order) (flags-within .out-fits) (omega (arith, v .held .idx-in))))
+          (rw (g .0) (part-behind interiorly (searchLevel (readLevel (b .level)) (b .wants)) m bits (b .len .0) (b .idx .0) e mid (v .start) (omega (arith, v .end, middle-fits flags-within low interiorly (searchLevel (readLevel (b .level)) (b .wants)) m bits)) (v .end)
+          ∙ part-behind interiorly (searchLevel (readLevel (b .level)) (b .wants)) m bits (b .len .0) s (b .«out_len» .0) (glyphs run) (v .order) (flags-within .out-fits) (omega (arith, v .held .idx-in))))
           (ap (λ (x : List ℕ). drop (b .«out_len» .0) (glyphs x)) (g .1))
           (own-out-within b run′ other′ (v .output) h
-          ∙ (out-flagged-within flags-within low interiorly (readLevel (b .level)) m bits (stateOf b) (state-level b) (m-is false h) (g .0) ∙ ap (flagOut interiorly bits s (e - b .idx .0)) (sym (own-out-within b run other (v .output) h))))
+          ∙ (out-flagged-within flags-within low interiorly (searchLevel (readLevel (b .level)) (b .wants)) m bits (stateOf b) (state-searching b) (m-is false h) (g .0) ∙ ap (flagOut interiorly bits s (e - b .idx .0)) (sym (own-out-within b run other (v .output) h))))
 
 placed : {b : Buffer} {run other : List ℕ} {i j : ℕ} (end : InputBound) → Held b run other → outputPhase (b .phase) ≡ true → j ≡ endOf (inputNumber end) (b .len .0) → (ltb (b .«out_len» .0) i || ltb j (b .idx .0)) ≡ false → Placed b i j run other
 placed {b} {run} {other} {i} {j} end v p ee n = record {
@@ -152,10 +152,10 @@ module _ {concat : Bool} {start : DoneBound} {end : InputBound} {b : Buffer} {f 
   out-asked t es ee = rw (es, ee) (d .is true (λ n. 0) .asked t)
 
 module _ {start : DoneBound} {end : InputBound} {b : Buffer} {f s : List ℕ} {v : Verdict} where
-  pub out-break : FlagsOut false start end b f s v → Decided (λ capacity a. outbufferForm true true 3 (doneBound start) (inputBound end) a) b f s (settled b v) (v .acts) (OutFlaggable (b .idx .0) (b .«out_len» .0) (startOf (doneNumber start)) (endOf (inputNumber end) (b .len .0)) f s) (OutFlagged (b .«have_separate_output») true (readLevel (b .level)) 3 (b .idx .0) (b .«out_len» .0) (startOf (doneNumber start)) (endOf (inputNumber end) (b .len .0)))
+  pub out-break : FlagsOut false start end b f s v → Decided (λ capacity a. outbufferForm true true 3 (doneBound start) (inputBound end) a) b f s (settled b v) (v .acts) (OutFlaggable (b .idx .0) (b .«out_len» .0) (startOf (doneNumber start)) (endOf (inputNumber end) (b .len .0)) f s) (OutFlagged (b .«have_separate_output») true (searchLevel (readLevel (b .level)) (b .wants)) 3 (b .idx .0) (b .«out_len» .0) (startOf (doneNumber start)) (endOf (inputNumber end) (b .len .0)))
   out-break d = d .is true (λ n. 3)
 
-  pub out-concat : FlagsOut true start end b f s v → Decided (λ capacity a. outbufferForm false (wantsConcat (a .state .wants)) 2 (doneBound start) (inputBound end) a) b f s (settled b v) (v .acts) (OutFlaggable (b .idx .0) (b .«out_len» .0) (startOf (doneNumber start)) (endOf (inputNumber end) (b .len .0)) f s) (OutFlagged (b .«have_separate_output») false (readLevel (b .level)) 2 (b .idx .0) (b .«out_len» .0) (startOf (doneNumber start)) (endOf (inputNumber end) (b .len .0)))
+  pub out-concat : FlagsOut true start end b f s v → Decided (λ capacity a. outbufferForm false (wantsConcat (a .state .wants)) 2 (doneBound start) (inputBound end) a) b f s (settled b v) (v .acts) (OutFlaggable (b .idx .0) (b .«out_len» .0) (startOf (doneNumber start)) (endOf (inputNumber end) (b .len .0)) f s) (OutFlagged (b .«have_separate_output») false (searchLevel (readLevel (b .level)) (b .wants)) 2 (b .idx .0) (b .«out_len» .0) (startOf (doneNumber start)) (endOf (inputNumber end) (b .len .0)))
   out-concat d = d .is false (λ n. 2)
 
 pub out-at : {y separate interiorly : Bool} {level x idx outLen i i′ j j′ : ℕ} {f s f′ s′ : List ℕ} → Sided y (OutFlagged separate interiorly level x idx outLen i j) f s f′ s′ → i ≡ i′ → j ≡ j′ → Sided y (OutFlagged separate interiorly level x idx outLen i′ j′) f s f′ s′

@@ -12,10 +12,11 @@ use Rattle.lists.proofs.{Copying.drop-take, Editing.edit-length}
 use Rattle.edits.specs.Flags.{flagAll, flagOutInterior, flagOutAll}
 use Rattle.edits.specs.inner.Marks.{flaggedPart, soughtOut, flagOut}
 use Rattle.edits.specs.inner.Holding.{holds, cut}
+use Rattle.edits.proofs.Searching.{searching, searching-held}
 use Rattle.edits.proofs.MergeForms.{OutRange}
 use Rattle.edits.proofs.Holding.{slice-take}
 use Rattle.edits.proofs.Bridge.{input-is, input-clusters, done-is, done-clusters, holds-with, input-edit}
-use Rattle.edits.proofs.FlagLaws.{level-held, interior-in, interior-length, interior-behind, interior-before}
+use Rattle.edits.proofs.FlagLaws.{interior-in, interior-length, interior-behind, interior-before}
 
 -- ---- one range: its length, what is not reached, and the range seen from a part of the list
 part-length : (interiorly : Bool) (level m bits i j : ℕ) (l : List (Glyph ℕ)) → i ≤ j → length (flaggedPart interiorly level m bits i j l) ≡ length l
@@ -49,7 +50,7 @@ module _ {run out : List (Glyph ℕ)} {idx len outLen s e : ℕ} (v : OutRange r
   inside = omega (arith, v .start, v .end)
 
   -- what is held after the form, from the part of the run that is input and from the output
-  out-held : (interiorly : Bool) (level m : ℕ) (run′ out′ : List (Glyph ℕ)) → k .level ≡ level → m ≡ soughtOut level s outLen idx e run out
+  out-held : (interiorly : Bool) (level m : ℕ) (run′ out′ : List (Glyph ℕ)) → searching k ≡ level → m ≡ soughtOut level s outLen idx e run out
       → slice idx len run′ ≡ flaggedPart interiorly level m bits 0 (e - idx) (slice idx len run) → take outLen out′ ≡ flaggedPart interiorly level m bits s outLen (take outLen out)
       → holds run′ out′ idx idx len outLen k ≡ flagOut interiorly bits s (e - idx) (holds run out idx idx len outLen k)
   unfolding flaggedPart flagOut flagOutInterior flagOutAll flagAll soughtOut outLenOf
@@ -61,7 +62,7 @@ module _ {run out : List (Glyph ℕ)} {idx len outLen s e : ℕ} (v : OutRange r
       let ds-is : clusters (a .done) ≡ cut outLen out = done-clusters run out idx idx len outLen k (le-refl idx) inside (v .fits) in
       let n-is : length (take outLen out) ≡ outLen = length-take-le outLen out (v .out-fits) in
       let r-is : take (e - idx) (drop idx (cut len run)) ≡ slice idx e (clusters run) = sym (drop-take idx e (cut len run)) ∙ slice-take idx e len (clusters run) (v .end) in
-      let lv : a .state .level ≡ level = level-held run out idx idx len outLen k ∙ el in
+      let lv : searching (a .state) ≡ level = searching-held run out idx idx len outLen k ∙ el in
       holds-with run out idx idx len outLen k (le-refl idx) inside (v .fits) run′ out′ _ _
       (er ∙ rw (cs-is, ds-is, in-is, lv, r-is, em))
       (eo ∙ rw (cs-is, ds-is, d-is, lv, n-is, r-is, em))
@@ -81,7 +82,7 @@ output-part interiorly level m bits n s out a f = rw (sub-zero s, sub-zero n) at
 
 -- THE LAWS of the outbuffer forms: with the output apart, of any two lists; and in the run, where first the output is written, then the input
 module _ {run out : List (Glyph ℕ)} {idx len outLen s e : ℕ} (v : OutRange run out idx len outLen s e) (interiorly : Bool) (bits : ℕ) (k : State) where
-  pub out-flagged-apart : (level : ℕ) {m : ℕ} {run′ out′ : List (Glyph ℕ)} → k .level ≡ level → m ≡ soughtOut level s outLen idx e run out
+  pub out-flagged-apart : (level : ℕ) {m : ℕ} {run′ out′ : List (Glyph ℕ)} → searching k ≡ level → m ≡ soughtOut level s outLen idx e run out
       → run′ ≡ flaggedPart interiorly level m bits idx e run → out′ ≡ flaggedPart interiorly level m bits s outLen out
       → holds run′ out′ idx idx len outLen k ≡ flagOut interiorly bits s (e - idx) (holds run out idx idx len outLen k)
   out-flagged-apart level {m} {run′} {out′} el em er eo =
@@ -96,7 +97,7 @@ module _ {run : List (Glyph ℕ)} {idx len outLen s e : ℕ} (v : OutRange run r
   pub middle-fits : len ≤ length middle
   middle-fits = rw (part-length interiorly level m bits s outLen run (v .order)) (v .fits)
 
-  pub out-flagged-within : (k : State) {run′ : List (Glyph ℕ)} → k .level ≡ level → m ≡ soughtOut level s outLen idx e run run → run′ ≡ flaggedPart interiorly level m bits idx e middle
+  pub out-flagged-within : (k : State) {run′ : List (Glyph ℕ)} → searching k ≡ level → m ≡ soughtOut level s outLen idx e run run → run′ ≡ flaggedPart interiorly level m bits idx e middle
       → holds run′ run′ idx idx len outLen k ≡ flagOut interiorly bits s (e - idx) (holds run run idx idx len outLen k)
   out-flagged-within k {run′} el em er =
       let kept : slice idx len middle ≡ slice idx len run = slice-behind idx len run middle (part-behind interiorly level m bits idx s outLen run (v .order) (v .out-fits) low) in

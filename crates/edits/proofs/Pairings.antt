@@ -12,6 +12,7 @@ use Rattle.records.proofs.Apart.{Apart, set-apart, clusters-paired, paired-edit
 use Rattle.edits.proofs.Holding.{same-account}
 use Rattle.edits.proofs.MergeLaws.{merge-order}
 use Rattle.edits.proofs.Places.{paired-interior}
+use Rattle.edits.proofs.Searching.{searching}
 
 -- the glyphs, each with its position where there are positions
 unfoldable pub pairing : Bool → List (Glyph ℕ) → List Position → List (Glyph ℕ)
@@ -145,10 +146,10 @@ module _ (t : Bool) (p : Phase) (ds rs : List Position) (g : ℕ) where
     unfolding flagInterior beside withInput input inPhase withGone
     flagged-beside bits s e o = rw (clusters-pairing t r rs) (pick (ltb (e - s) 2))
       where
-        pick : (x : Bool) → cond x (beside t p g ds rs (lone d r k)) (withInput (interior (k .level) (sought (k .level) (slice s e (clusters r))) bits s e (pairing t r rs)) (beside t p g ds rs (lone d r k)))
-            ≡ beside t p g ds rs (cond x (lone d r k) (withInput (interior (k .level) (sought (k .level) (slice s e (clusters r))) bits s e r) (lone d r k)))
+        pick : (x : Bool) → cond x (beside t p g ds rs (lone d r k)) (withInput (interior (searching k) (sought (searching k) (slice s e (clusters r))) bits s e (pairing t r rs)) (beside t p g ds rs (lone d r k)))
+            ≡ beside t p g ds rs (cond x (lone d r k) (withInput (interior (searching k) (sought (searching k) (slice s e (clusters r))) bits s e r) (lone d r k)))
         pick true = refl
-        pick false = same-account refl refl (pairing-interior t r rs (k .level) (sought (k .level) (slice s e (clusters r))) bits s e o) refl
+        pick false = same-account refl refl (pairing-interior t r rs (searching k) (sought (searching k) (slice s e (clusters r))) bits s e o) refl
 
     merge-beside : (merges : Bool) (s e : ℕ) → s ≤ e → merge merges s e (beside t p g ds rs (lone d r k)) ≡ beside t p g ds rs (merge merges s e (lone d r k))
     unfolding merge

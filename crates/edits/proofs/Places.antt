@@ -14,6 +14,7 @@ use Rattle.edits.specs.inner.Holding.{holds, cut}
 use Rattle.edits.specs.inner.Plans.{Mergeable, mergePlan, tailStart, mergedRun, mergedTail}
 use Rattle.edits.proofs.MergeForms.{InputRange, InputFrom, MergedWithin}
 use Rattle.edits.proofs.MergeLaws.{plan-order, tail-most, merged-within}
+use Rattle.edits.proofs.Searching.{searching}
 use Rattle.edits.proofs.FlagLaws.{flagged-within, flagged-all-within}
 
 module _ (h : Info → Info) (a : Apart h) where
@@ -64,7 +65,7 @@ module _ {l : List (Glyph ℕ)} {len outLen s e : ℕ} (v : InputRange l l len o
 
   module _ {gone idx : ℕ} (w : InputFrom gone idx len s) (low : outLen ≤ gone) (bits : ℕ) (k : State) where
     -- THE LAW of an interior flag in phase positions
-    pub paired-flagged : (level : ℕ) {l′ : List (Glyph ℕ)} → 2 ≤ e - s → k .level ≡ level → l′ ≡ interior level (sought level (slice s e (clusters l))) bits s e l
+    pub paired-flagged : (level : ℕ) {l′ : List (Glyph ℕ)} → 2 ≤ e - s → searching k ≡ level → l′ ≡ interior level (sought level (slice s e (clusters l))) bits s e l
         → holds (paired l′ ps) (paired l′ ps) gone idx len outLen k ≡ flagInterior bits (s - gone) (e - gone) (holds (paired l ps) (paired l ps) gone idx len outLen k)
     paired-flagged level {l′} two el er =
         flagged-within paired-range w low bits k level two el

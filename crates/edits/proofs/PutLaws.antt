@@ -208,8 +208,8 @@ module _ {i l o m n x : ℕ} {run other : List ℕ} (v : Replaceable i l o m n x
       let eo : length (glyphs other₁) ≡ length (glyphs other) = glyphs-same other₁ other lo in
       record { same = er ∙ (v .same ∙ sym eo); fits = omega (arith, v .fits) }
 
-pub replaces-of : {separate apart merges : Bool} {level i l o m n : ℕ} {gs run other run₁ other₁ run′ other′ : List ℕ} {u : Glyph ℕ} → Sided false (Merges separate merges level i l o i (i + m)) run other run₁ other₁ → length run₁ ≡ length run → length other₁ ≡ length other → u ≡ getD (glyphs run₁) i zeroGlyph
-    → Wrote separate apart o (copies (u .info) gs) n run₁ other₁ run′ other′ → Replaces separate apart merges level i l o m n gs run other run′ other′
+pub replaces-of : {separate apart merges : Bool} {level wants i l o m n : ℕ} {gs run other run₁ other₁ run′ other′ : List ℕ} {u : Glyph ℕ} → Sided false (Merges separate merges level wants i l o i (i + m)) run other run₁ other₁ → length run₁ ≡ length run → length other₁ ≡ length other → u ≡ getD (glyphs run₁) i zeroGlyph
+    → Wrote separate apart o (copies (u .info) gs) n run₁ other₁ run′ other′ → Replaces separate apart merges level wants i l o m n gs run other run′ other′
 replaces-of {run₁ = run₁} {other₁ = other₁} {u = u} w lr lo eu q = record { run₁ = run₁; other₁ = other₁; run-long = lr; other-long = lo; merged = w; first = u; first-is = eu; wrote = q }
 
 -- for the proofs of functions

@@ -70,7 +70,7 @@ abbrev spent : Buffer → ℕ → ℕ → Limits
 spent b m n = mergeLimits (merging b) m (grown (b .«out_len» .0 + n) (b .limits))
 
 module _ {b : Buffer} {run other run′ other′ : List ℕ} (m n : ℕ) (gs : List ℕ) (v : SyncOutput b run other) (fit : roomFor (capacityOf (length run)) (b .«out_len» .0 + n) (b .limits) ≡ Fits) (in-len : b .idx .0 + m ≤ b .len .0) (some : b .idx .0 < b .len .0) (many : n ≤ length gs) (lr : length run′ ≡ length run) (lo : length other′ ≡ length other) where
-  module _ (w : Replaces (b .«have_separate_output») (overtakes b m n) (merging b) (b .level) (b .idx .0) (b .len .0) (b .«out_len» .0) m n gs run other run′ other′) where
+  module _ (w : Replaces (b .«have_separate_output») (overtakes b m n) (merging b) (b .level) (b .wants) (b .idx .0) (b .len .0) (b .«out_len» .0) m n gs run other run′ other′) where
     inputs-merge : Acts (merge (merging b) (b .idx .0 - goneOf (grownBuffer n b)) (b .idx .0 + m - goneOf (grownBuffer n b))) (grownBuffer n b) run other (withLimitsOf (spent b m n) (grownBuffer n b)) (w .run₁) (w .other₁)
     unfolding withLimitsOf
     inputs-merge =
@@ -123,7 +123,7 @@ module _ {m n : ℕ} {gs : List ℕ} {b : Buffer} {f s : List ℕ} {v : Verdict}
             let some : b .idx .0 < b .len .0 = omega arith in
             let many : n ≤ length gs = omega arith in
             record {
-              is = decided-writes _ b f s v m n _ (λ y. Replaces (b .«have_separate_output») y (clustersMerge (readLevel (b .level))) (b .level) (b .idx .0) (b .len .0) (b .«out_len» .0) m n gs) (mergeLimits (clustersMerge (readLevel (b .level))) m) h
+              is = decided-writes _ b f s v m n _ (λ y. Replaces (b .«have_separate_output») y (clustersMerge (readLevel (b .level))) (b .level) (b .wants) (b .idx .0) (b .len .0) (b .«out_len» .0) m n gs) (mergeLimits (clustersMerge (readLevel (b .level))) m) h
                   (record { then = _; law = λ run other l. writes l ∙ writing-room (synced o l) n (λ a. replaced m n gs (sized (outLen a + n) a)) })
                   (λ fits. record { law = λ run other run′ other′ l lr lo act. in-call (writes l) (replace-meets m n gs (synced o l) (fits .law run other l) in-len some many lr lo act) })
                   (λ fits. let p = room-puttable h fits in record { same = p .same; len-in = omega arith; fits = p .fits; some = some; in-len = in-len; enough = many })
@@ -142,8 +142,8 @@ module _ {m n : ℕ} {gs : List ℕ} {b : Buffer} {f s : List ℕ} {v : Verdict}
     pub replace-still : v .acts ≡ false → f″ ≡ f → s″ ≡ s → Meets (λ capacity a. replaceGlyphs capacity m n gs a) b f s r f″ s″
     replace-still t ef es = end-still er (w .is) t ef es
 
-    pub replace-acted : {t : Bool} {f′ s′ : List ℕ} → v .acts ≡ true → t ≡ clustersMerge (readLevel (b .level)) → f″ ≡ f′ → s″ ≡ s′ → length f′ ≡ length f → length s′ ≡ length s → Sided (b .swapped) (Replaces (b .«have_separate_output») (v .apart) t (b .level) (b .idx .0) (b .len .0) (b .«out_len» .0) m n gs) f s f′ s′ → Meets (λ capacity a. replaceGlyphs capacity m n gs a) b f s r f″ s″
-    replace-acted {t} {f′} {s′} h et ef es lf ls act = end-acted er (w .is) h ef es lf ls (subst (λ (y : Bool). Sided (b .swapped) (Replaces (b .«have_separate_output») (v .apart) y (b .level) (b .idx .0) (b .len .0) (b .«out_len» .0) m n gs) f s f′ s′) et act)
+    pub replace-acted : {t : Bool} {f′ s′ : List ℕ} → v .acts ≡ true → t ≡ clustersMerge (readLevel (b .level)) → f″ ≡ f′ → s″ ≡ s′ → length f′ ≡ length f → length s′ ≡ length s → Sided (b .swapped) (Replaces (b .«have_separate_output») (v .apart) t (b .level) (b .wants) (b .idx .0) (b .len .0) (b .«out_len» .0) m n gs) f s f′ s′ → Meets (λ capacity a. replaceGlyphs capacity m n gs a) b f s r f″ s″
+    replace-acted {t} {f′} {s′} h et ef es lf ls act = end-acted er (w .is) h ef es lf ls (subst (λ (y : Bool). Sided (b .swapped) (Replaces (b .«have_separate_output») (v .apart) y (b .level) (b .wants) (b .idx .0) (b .len .0) (b .«out_len» .0) m n gs) f s f′ s′) et act)
 
 -- numbers that are given as such
 pub meets-numbers : (m n : ℕ) (gs : List ℕ) {b : Buffer} {f s : List ℕ} {r : Reply} {f′ s′ : List ℕ} → Meets (λ capacity a. replaceGlyphs capacity m n (given gs []) a) b f s r f′ s′ → Meets (λ capacity a. replaceGlyphs capacity m n gs a) b f s r f′ s′

@@ -34,8 +34,8 @@ module _ {A : Type 0} (z : A) (l : List A) (i k : ℕ) (hi : i < length l) (o : 
   set-beyond m h = rw set-copied (drop-copied l l k i 1 m (omega arith) (omega arith) (omega arith))
 
 -- ---- a buffer under way, at i of n glyphs, of which o are kept
-abbrev pub amid : (level n : ℕ) → Buffer → Limits → (i o : ℕ) → Buffer
-amid level n b l i o = record { idx = record { 0 = i }; len = record { 0 = n }; «out_len» = record { 0 = o }; limits = l; wants = b .wants; phase = Output; swapped = b .swapped; «have_separate_output» = false; level = level }
+abbrev pub amid : (level wants n : ℕ) → Buffer → Limits → (i o : ℕ) → Buffer
+amid level wants n b l i o = record { idx = record { 0 = i }; len = record { 0 = n }; «out_len» = record { 0 = o }; limits = l; wants = wants; phase = Output; swapped = b .swapped; «have_separate_output» = false; level = level }
 
 abbrev pub phaseOf : Bool → Phase
 phaseOf t = cond t Positions Plain
@@ -72,11 +72,11 @@ onward-as : {h h′ : Account ℕ → Account ℕ} {t : Bool} {b r : Buffer} {ru
 onward-as u e = record { is = u .is ∙ e; size = u .size; run-beyond = u .run-beyond; other-beyond = u .other-beyond; held = u .held }
 
 -- ---- the glyph at the cursor is deleted
-module _ (t : Bool) {level n i o : ℕ} {l l′ : Limits} (b : Buffer) {run other run′ other′ : List ℕ} (low : o ≤ i) (u : Acts (λ a. deleted a) (amid level n b l i o) run other (amid level n b l′ (i + 1) o) run′ other′) (k : other′ ≡ other) where
-  delete-is : underway t (amid level n b l′ (i + 1) o) run′ other′ ≡ deleted (underway t (amid level n b l i o) run other)
+module _ (t : Bool) {level wants n i o : ℕ} {l l′ : Limits} (b : Buffer) {run other run′ other′ : List ℕ} (low : o ≤ i) (u : Acts (λ a. deleted a) (amid level wants n b l i o) run other (amid level wants n b l′ (i + 1) o) run′ other′) (k : other′ ≡ other) where
+  delete-is : underway t (amid level wants n b l′ (i + 1) o) run′ other′ ≡ deleted (underway t (amid level wants n b l i o) run other)
   delete-is =
-      let x : Buffer = amid level n b l i o in
-      let r : Buffer = amid level n b l′ (i + 1) o in
+      let x : Buffer = amid level wants n b l i o in
+      let r : Buffer = amid level wants n b l′ (i + 1) o in
       let ps : List Position = positionsIn other in
       let gone : i + 1 - o ≡ i - o + 1 = omega (arith, low) in
       let done : take o (positionsIn other′) ≡ take o ps = ap (λ (q : List ℕ). take o (positionsIn q)) k in
@@ -87,7 +87,7 @@ module _ (t : Bool) {level n i o : ℕ} {l l′ : Limits} (b : Buffer) {run othe
       ∙ ((λ z. beside t (phaseOf t) (gone z) (done z) (rest z) (here z))
       ∙ (sym (deleted-beside t (phaseOf t) (take o ps) (slice i n ps) (i - o) (take o (glyphs run)) (slice i n (glyphs run)) _) ∙ ap (λ (a : Account ℕ). deleted a) (sym (underway-beside t x run other))))
 
-  delete-onward : Onward (λ a. deleted a) t (amid level n b l i o) run other (amid level n b l′ (i + 1) o) run′ other′
+  delete-onward : Onward (λ a. deleted a) t (amid level wants n b l i o) run other (amid level wants n b l′ (i + 1) o) run′ other′
   delete-onward = record { is = delete-is; size = u .size; run-beyond = u .run-beyond; other-beyond = u .other-beyond; held = u .held }
 
 -- ---- the glyph at the cursor is kept
@@ -122,17 +122,17 @@ module _ {n i o : ℕ} {run other : List ℕ} (w : RunRoom n run other) (low : o
       record { from = omega (arith, w .fits); to = omega (arith, w .fits); from-place = omega (arith, w .fits); to-place = omega (arith, w .fits) }
 
 -- a glyph at the cursor
-pub record Next (level n : ℕ) (l : Limits) (i o : ℕ) (b : Buffer) (run other : List ℕ) : Type 0 where
+pub record Next (level wants n : ℕ) (l : Limits) (i o : ℕ) (b : Buffer) (run other : List ℕ) : Type 0 where
   pub room : RunRoom n run other
   pub low : o ≤ i
   pub some : i < n
-  pub held : Held (amid level n b l i o) run other
+  pub held : Held (amid level wants n b l i o) run other
 
-module _ (t : Bool) {level n i o : ℕ} {l : Limits} {b : Buffer} {run other run′ other′ : List ℕ} (v : Next level n l i o b run other) (u : MovesGlyph t i o run other run′ other′) (lr : length run′ ≡ length run) (lo : length other′ ≡ length other) where
+module _ (t : Bool) {level wants n i o : ℕ} {l : Limits} {b : Buffer} {run other run′ other′ : List ℕ} (v : Next level wants n l i o b run other) (u : MovesGlyph t i o run other run′ other′) (lr : length run′ ≡ length run) (lo : length other′ ≡ length other) where
   inside : MoveRoom i o run other
   inside = keep-room (v .room) (v .low) (v .some)
 
-  keep-is : underway t (amid level n b l (i + 1) (o + 1)) run′ other′ ≡ kept (underway t (amid level n b l i o) run other)
+  keep-is : underway t (amid level wants n b l (i + 1) (o + 1)) run′ other′ ≡ kept (underway t (amid level wants n b l i o) run other)
   unfolding underway kept
   keep-is =
       let m : List (Glyph ℕ) = pairing t (glyphs run) (positionsIn other) in
@@ -142,7 +142,7 @@ module _ (t : Bool) {level n i o : ℕ} {l : Limits} {b : Buffer} {run other run
       let gone : i + 1 - (o + 1) ≡ i - o = omega arith in
       let done : take (o + 1) (pairing t (glyphs run′) (positionsIn other′)) ≡ take o m ++ take 1 (slice i n m) = ap (take (o + 1)) here ∙ set-done zeroGlyph m i o within (v .low) n (v .some) in
       let rest : slice (i + 1) n (pairing t (glyphs run′) (positionsIn other′)) ≡ drop 1 (slice i n m) = ap (slice (i + 1) n) here ∙ set-rest zeroGlyph m i o within (v .low) n in
-      same-account done refl rest (λ x. record { phase = phaseOf t; gone = gone x; limits = l; level = readLevel level; wants = b .wants })
+      same-account done refl rest (λ x. record { phase = phaseOf t; gone = gone x; limits = l; level = readLevel level; wants = wants })
 
   kept-run : drop (l .allocated) (glyphs run′) ≡ drop (l .allocated) (glyphs run)
   kept-run = ap (drop (l .allocated)) (u .run-is) ∙ set-beyond zeroGlyph (glyphs run) i o (inside .from) (v .low) (l .allocated) (omega (arith, v .low, v .some, v .held .len-in))
@@ -154,7 +154,7 @@ module _ (t : Bool) {level n i o : ℕ} {l : Limits} {b : Buffer} {run other run
       pick true = set-beyond zeroPosition (positionsIn other) i o (inside .from-place) (v .low) (l .allocated) (omega (arith, v .low, v .some, v .held .len-in))
       pick false = refl
 
-  keep-held : Held (amid level n b l (i + 1) (o + 1)) run other
+  keep-held : Held (amid level wants n b l (i + 1) (o + 1)) run other
   keep-held = record {
     idx-in = omega (arith, v .some);
     len-in = v .held .len-in;
@@ -167,7 +167,7 @@ module _ (t : Bool) {level n i o : ℕ} {l : Limits} {b : Buffer} {run other run
     none = λ p. absurd (false≢true (sym p));
   }
 
-  keep-onward : Onward (λ a. kept a) t (amid level n b l i o) run other (amid level n b l (i + 1) (o + 1)) run′ other′
+  keep-onward : Onward (λ a. kept a) t (amid level wants n b l i o) run other (amid level wants n b l (i + 1) (o + 1)) run′ other′
   keep-onward = record {
     is = keep-is;
     size = refl;
@@ -177,8 +177,8 @@ module _ (t : Bool) {level n i o : ℕ} {l : Limits} {b : Buffer} {run other run
   }
 
 -- ---- one or the other
-module _ (t : Bool) (slot mask value : ℕ) {level n i o : ℕ} {l : Limits} {b : Buffer} {run other : List ℕ} (v : Next level n l i o b run other) where
-  key-here : key slot mask (current (underway t (amid level n b l i o) run other)) ≡ key slot mask (getD (glyphs run) i zeroGlyph .info)
+module _ (t : Bool) (slot mask value : ℕ) {level wants n i o : ℕ} {l : Limits} {b : Buffer} {run other : List ℕ} (v : Next level wants n l i o b run other) where
+  key-here : key slot mask (current (underway t (amid level wants n b l i o) run other)) ≡ key slot mask (getD (glyphs run) i zeroGlyph .info)
   unfolding current underway infos
   key-here =
       let m : List (Glyph ℕ) = glyphs run in
@@ -188,15 +188,15 @@ module _ (t : Bool) (slot mask value : ℕ) {level n i o : ℕ} {l : Limits} {b 
       ∙ ap (λ (x : List (Glyph ℕ)). key slot mask (getD (infos x) 0 (blank 0))) one)
 
   module _ {k : ℕ} (ek : k ≡ key slot mask (getD (glyphs run) i zeroGlyph .info)) where
-    pub one-deleted : {merged : Bool} {run′ other′ : List ℕ} → k ≡ value → Deletes false level i n o merged run other run′ other′ → Onward (sifted slot mask value) t (amid level n b l i o) run other (amid level n b (mergeLimits merged 2 l) (i + 1) o) run′ other′
+    pub one-deleted : {merged : Bool} {run′ other′ : List ℕ} → k ≡ value → Deletes false level wants i n o merged run other run′ other′ → Onward (sifted slot mask value) t (amid level wants n b l i o) run other (amid level wants n b (mergeLimits merged 2 l) (i + 1) o) run′ other′
     unfolding sifted
     one-deleted {merged} h d =
-        onward-as (delete-onward t b (v .low) (rw (placed-is (mergeLimits merged 2 l) (amid level n b l i o) (i + 1) n o) at (d .acts (amid level n b l i o) (record { held = v .held; output = refl; some = v .some }))) (d .own refl))
-        (rw (eq-eqb (key slot mask (current (underway t (amid level n b l i o) run other))) value (key-here ∙ (sym ek ∙ h))))
+        onward-as (delete-onward t b (v .low) (rw (placed-is (mergeLimits merged 2 l) (amid level wants n b l i o) (i + 1) n o) at (d .acts (amid level wants n b l i o) (record { held = v .held; output = refl; some = v .some }))) (d .own refl))
+        (rw (eq-eqb (key slot mask (current (underway t (amid level wants n b l i o) run other))) value (key-here ∙ (sym ek ∙ h))))
 
-    pub one-kept : {run′ other′ : List ℕ} → (k ≡ value → ⊥) → MovesGlyph t i o run other run′ other′ → length run′ ≡ length run → length other′ ≡ length other → Onward (sifted slot mask value) t (amid level n b l i o) run other (amid level n b l (i + 1) (o + 1)) run′ other′
+    pub one-kept : {run′ other′ : List ℕ} → (k ≡ value → ⊥) → MovesGlyph t i o run other run′ other′ → length run′ ≡ length run → length other′ ≡ length other → Onward (sifted slot mask value) t (amid level wants n b l i o) run other (amid level wants n b l (i + 1) (o + 1)) run′ other′
     unfolding sifted
-    one-kept h u lr lo = onward-as (keep-onward t v u lr lo) (rw (ne-eqb (key slot mask (current (underway t (amid level n b l i o) run other))) value (λ q. h (ek ∙ (sym key-here ∙ q)))))
+    one-kept h u lr lo = onward-as (keep-onward t v u lr lo) (rw (ne-eqb (key slot mask (current (underway t (amid level wants n b l i o) run other))) value (λ q. h (ek ∙ (sym key-here ∙ q)))))
 
 -- for the proofs of functions
 pub ruleset moving-down = (position-moved, position-none, glyph-same, glyph-moved)

@@ -1,5 +1,6 @@
 -- Flags: calls 15 to 19.
-use Rattle.records.specs.Library.{ℕ, _+_, _-_, _/_, _%_, min, Bool, false, cond, not, _&&_, _||_, ltb, Option, none, some, List, take, drop, slice}
+use Rattle.records.specs.Library.{ℕ, _+_, _-_, _/_, _%_, _≤_, min, Bool, true, false, cond, not, _&&_, _||_, ltb, Option, none, some, List, take, drop}
+use Rattle.records.specs.Library.{slice, _≡_}
 use Rattle.records.specs.{DonePlace, InputPlace, WrongPhase, OutOfRange, Glyphs.Glyph, Glyphs.flagged, Glyphs.flaggedUnless, Ranges.clusters, Ranges.edit}
 use Rattle.records.specs.{Ranges.is, Ranges.isnt, Ranges.least, Ranges.firstCluster, Ranges.lastCluster, Ranges.heads, Ranges.tails}
 use Rattle.lists.specs.Account.{Account, hasOutput, isSpoiled, input, len, idx, outLen, withInput, withDone, Result, accepted, refuse_when_else_}
@@ -7,11 +8,16 @@ use Rattle.edits.specs.{declared.InputBound.InputBound, declared.InputBo
 use Rattle.edits.specs.{declared.InputBound.the-variants.At as InputAt, declared.DoneBound.DoneBound, declared.DoneBound.the-variants.Open as DoneOpen}
 use Rattle.edits.specs.{declared.DoneBound.the-variants.At as DoneAt}
 
--- "wants (bit 0 unsafe-to-concat, bit 1 tatweel)"
+-- "wants (bit 0 unsafe-to-concat, bit 1 tatweel)"; "Wants bit 2 switches level 3 to the search that level 2 has." (document 02, N11)
 abbrev pub wantsConcat : ℕ → Bool
 wantsConcat wants = is 1 (wants % 2)
 abbrev pub wantsTatweel : ℕ → Bool
 wantsTatweel wants = is 1 (wants / 2 % 2)
+abbrev pub switches : (level wants : ℕ) → Bool
+switches level wants = is 3 level && is 1 (wants / 4 % 2)
+-- the level that searches, and marks: "Marking every cluster but the least follows level 2's rule in full there."
+unfoldable pub searchLevel : (level wants : ℕ) → ℕ
+searchLevel level wants = cond (switches level wants) 2 level
 -- "m is the least cluster, which only level 2 seeks in the whole range, others at first and last"
 abbrev pub seeksAll : ℕ → Bool
 seeksAll level = is 2 level
@@ -46,13 +52,13 @@ module _ {G : Type 0} where
   -- "a plain range under two glyphs does nothing". i and j are places in the list `input`, `gone` taken off
   unfoldable pub flagInterior : (bits i j : ℕ) → Account G → Account G
   flagInterior bits i j a =
-      let level = a .state .level in
+      let level = searchLevel (a .state .level) (a .state .wants) in
       cond (ltb (j - i) 2) a (withInput (interior level (sought level (slice i j (clusters (input a)))) bits i j (input a)) a)
   -- "the outbuffer form takes both lists' ranges together, then marks each alone": from place i of *done* up to place j of *rest*; but at level 2 m is the
   -- least of four, the first and last of each range
   unfoldable pub flagOutInterior : (bits i j : ℕ) → Account G → Account G
   flagOutInterior bits i j a =
-      let level = a .state .level in
+      let level = searchLevel (a .state .level) (a .state .wants) in
       let m = min (sought level (drop i (clusters (a .done)))) (sought level (take j (clusters (input a)))) in
       withDone (interior level m bits i (outLen a) (a .done)) (withInput (interior level m bits 0 j (input a)) a)
   -- "Concat forms mark the whole range."
@@ -81,6 +87,26 @@ module _ {G : Type 0} where
       cond (not wanted || tooFar s′ e′) (accepted a)
       (refuse OutOfRange when ltb (outLen a) start || ltb stop (idx a) else
       accepted (cond interiorly (flagOutInterior bits start j a) (flagOutAll bits start j a)))
+
+-- ---- what wants bit 2 changes, and that nothing else changes (document 02, N11)
+module _ {G : Type 0} (a : Account G) where
+  -- "Marking every cluster but the least follows level 2's rule in full there.": every glyph of the range that is not of its least cluster is marked
+  pub record SearchesWhole : Type 0 where
+    pub plain : (bits i j : ℕ) → 2 ≤ j - i
+        → flagInterior bits i j a ≡ withInput (edit i j (flaggedUnless (least (slice i j (clusters (input a)))) bits) (input a)) a
+    pub outbuffer : (bits i j : ℕ) → let m = min (least (drop i (clusters (a .done)))) (least (take j (clusters (input a)))) in
+        flagOutInterior bits i j a ≡ withDone (edit i (outLen a) (flaggedUnless m bits) (a .done)) (withInput (edit 0 j (flaggedUnless m bits) (input a)) a)
+  -- the two definitions as they were, word for word
+  pub record SearchesAsBefore : Type 0 where
+    pub plain : (bits i j : ℕ) → let level = a .state .level in
+        flagInterior bits i j a ≡ cond (ltb (j - i) 2) a (withInput (interior level (sought level (slice i j (clusters (input a)))) bits i j (input a)) a)
+    pub outbuffer : (bits i j : ℕ) → let level = a .state .level in
+        let m = min (sought level (drop i (clusters (a .done)))) (sought level (take j (clusters (input a)))) in
+        flagOutInterior bits i j a ≡ withDone (interior level m bits i (outLen a) (a .done)) (withInput (interior level m bits 0 j (input a)) a)
+  -- "With the bit clear harfrust stays the measure; with it set the rewritten account is."
+  pub record Searches : Type 0 where
+    pub set : switches (a .state .level) (a .state .wants) ≡ true → SearchesWhole
+    pub clear : switches (a .state .level) (a .state .wants) ≡ false → SearchesAsBefore
 
 -- ---- Bounds of the flag forms as the account takes them.
 unfoldable pub inputBound : InputBound → Option InputPlace

@@ -125,12 +125,13 @@ pub(crate) fn keep_cluster(
     swapped: bool,
     separate: bool,
     level: u32,
+    wants: u32,
     idx: usize,
     len: usize,
     out_len: usize,
 ) -> bool
     requires { ⌜ DeleteRoom idx len «out_len» (now first) (now second) ⌝ }
-    ensures { λ r. ⌜ Sided swapped (Deletes separate level idx len «out_len» r) (now (first .entry)) (now (second .entry)) (now (first .exit)) (now (second .exit)) ⌝ }
+    ensures { λ r. ⌜ Sided swapped (Deletes separate level wants idx len «out_len» r) (now (first .entry)) (now (second .entry)) (now (first .exit)) (now (second .exit)) ⌝ }
 {
     if survives_by(first, second, swapped, separate, idx, len, out_len) {
         return false;
@@ -150,6 +151,7 @@ pub(crate) fn keep_cluster(
         separate,
         merges,
         level,
+        wants,
         idx,
         len,
         out_len,
@@ -161,7 +163,7 @@ pub(crate) fn keep_cluster(
 
 // 0F. What is due where it merges is not in it.
 fn delete_verdict(b: Buffer, first: &[u32], second: &[u32]) -> Verdict
-    ensures { λ v. ⌜ DecidedBy Bool mergedWith (λ capacity a. deleteGlyph a) b (now (first .entry)) (now (second .entry)) v (DeleteRoom (b .idx .0) (b .len .0) (b .«out_len» .0) (now (first .entry)) (now (second .entry))) (Deletes (b .«have_separate_output») (b .level) (b .idx .0) (b .len .0) (b .«out_len» .0)) ⌝ }
+    ensures { λ v. ⌜ DecidedBy Bool mergedWith (λ capacity a. deleteGlyph a) b (now (first .entry)) (now (second .entry)) v (DeleteRoom (b .idx .0) (b .len .0) (b .«out_len» .0) (now (first .entry)) (now (second .entry))) (Deletes (b .«have_separate_output») (b .level) (b .wants) (b .idx .0) (b .len .0) (b .«out_len» .0)) ⌝ }
 {
     if state::is_sound(b, first, second) {
         let phase = b.phase;
@@ -189,6 +191,7 @@ pub fn delete_glyph(b: Buffer, first: &mut [u32], second: &mut [u32]) -> Reply
             b.swapped,
             b.have_separate_output,
             b.level,
+            b.wants,
             b.idx.0,
             b.len.0,
             b.out_len.0,

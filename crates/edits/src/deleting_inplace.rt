@@ -51,6 +51,7 @@ fn sift(
     other: &mut [u32],
     positions: bool,
     level: u32,
+    wants: u32,
     limits: Limits,
     len: usize,
     slot: u32,
@@ -58,14 +59,24 @@ fn sift(
     value: u32,
 ) -> Kept
     requires { ⌜ RunRoom len (now run) (now other) ⌝ }
-    ensures { λ r. ⌜ Sifts slot mask value positions level len limits r (now (run .entry)) (now (other .entry)) (now (run .exit)) (now (other .exit)) ⌝ }
+    ensures { λ r. ⌜ Sifts slot mask value positions level wants len limits r (now (run .entry)) (now (other .entry)) (now (run .exit)) (now (other .exit)) ⌝ }
 {
     let mut left = limits;
     let mut out_len = 0;
     let mut idx = 0;
     while idx < len {
         if records::glyphs::key_at(run, idx, slot, mask) == value {
-            let merged = deleting::keep_cluster(run, other, false, false, level, idx, len, out_len);
+            let merged = deleting::keep_cluster(
+                run,
+                other,
+                false,
+                false,
+                level,
+                wants,
+                idx,
+                len,
+                out_len,
+            );
             left = merge_acts::merge_limits(left, merged, 2);
         } else {
             move_glyph(run, other, positions, idx, out_len);
@@ -86,6 +97,7 @@ fn sift_by(
     swapped: bool,
     positions: bool,
     level: u32,
+    wants: u32,
     limits: Limits,
     len: usize,
     slot: u32,
@@ -93,7 +105,7 @@ fn sift_by(
     value: u32,
 ) -> Kept
     requires { ⌜ RunRoom len (now first) (now second) ⌝ }
-    ensures { λ r. ⌜ Sided swapped (Sifts slot mask value positions level len limits r) (now (first .entry)) (now (second .entry)) (now (first .exit)) (now (second .exit)) ⌝ }
+    ensures { λ r. ⌜ Sided swapped (Sifts slot mask value positions level wants len limits r) (now (first .entry)) (now (second .entry)) (now (first .exit)) (now (second .exit)) ⌝ }
 {
     if swapped {
         return sift(
@@ -101,6 +113,7 @@ fn sift_by(
             first,
             positions,
             level,
+            wants,
             limits,
             len,
             slot,
@@ -113,6 +126,7 @@ fn sift_by(
         second,
         positions,
         level,
+        wants,
         limits,
         len,
         slot,
@@ -142,6 +156,7 @@ pub fn delete_glyphs_inplace(
             b.swapped,
             positions,
             b.level,
+            b.wants,
             b.limits,
             b.len.0,
             slot,

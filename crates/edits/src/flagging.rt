@@ -10,6 +10,7 @@ ghost use Rattle.edits.specs.inner.Marks.{FlagsInput, FlagsOut};
 use super::DoneBound;
 use super::InputBound;
 use super::bounds;
+use super::flags;
 use super::marking;
 use super::merges;
 use lists::Buffer;
@@ -135,7 +136,8 @@ pub fn unsafe_to_break(
     if v.acts {
         let s = bounds::input_start(start);
         let e = bounds::input_end(end, b.len.0);
-        marking::flag_by(first, second, b.swapped, true, b.level, 3, s, e);
+        let level = flags::search_level(b.level, b.wants);
+        marking::flag_by(first, second, b.swapped, true, level, 3, s, e);
     }
     verdicts::settled(b, v)
 }
@@ -174,7 +176,8 @@ pub fn safe_to_insert_tatweel(
         let s = bounds::input_start(start);
         let e = bounds::input_end(end, b.len.0);
         let bits = tatweel_bits(b.wants);
-        marking::flag_by(first, second, b.swapped, true, b.level, bits, s, e);
+        let level = flags::search_level(b.level, b.wants);
+        marking::flag_by(first, second, b.swapped, true, level, bits, s, e);
     }
     verdicts::settled(b, v)
 }
@@ -200,6 +203,7 @@ pub fn unsafe_to_break_from_outbuffer(
             b.have_separate_output,
             true,
             b.level,
+            b.wants,
             b.idx.0,
             b.out_len.0,
             s,
@@ -230,6 +234,7 @@ pub fn unsafe_to_concat_from_outbuffer(
             b.have_separate_output,
             false,
             b.level,
+            b.wants,
             b.idx.0,
             b.out_len.0,
             s,

@@ -7,8 +7,20 @@ ghost use lib.Seq.{slice};
 ghost use Rattle.records.specs.Ranges.{clusters, heads, is, isnt, tails};
 ghost use Rattle.records.specs.View.{glyphs};
 ghost use Rattle.lists.specs.Account.{readLevel};
-ghost use Rattle.edits.specs.Flags.{interior, sought, seeksAll};
+ghost use Rattle.edits.specs.Flags.{interior, searchLevel, sought, seeksAll};
 use lists::state;
+
+// The level whose way of searching and marking holds: bit 2 of wants gives level 3 that of level 2.
+pub(crate) fn search_level(level: u32, wants: u32) -> u32
+    ensures { λ r. ⌜ readLevel r ≡ searchLevel (readLevel level) wants ⌝ }
+{
+    if level == 3 {
+        if wants / 4 % 2 == 1 {
+            return 2;
+        }
+    }
+    level
+}
 
 // Whether the least cluster is sought in the whole range.
 fn seeks_all(level: u32) -> bool

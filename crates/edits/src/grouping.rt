@@ -18,19 +18,20 @@ pub(crate) fn merge_each(
     other: &mut [u32],
     merging: bool,
     level: u32,
+    wants: u32,
     limits: Limits,
     len: usize,
     slot: u32,
     mask: u32,
 ) -> Limits
     requires { ⌜ RunRoom len (now run) (now other) ⌝ }
-    ensures { λ r. ⌜ MergesEach merging level len slot mask limits r (now (run .entry)) (now (other .entry)) (now (run .exit)) (now (other .exit)) ⌝ }
+    ensures { λ r. ⌜ MergesEach merging level wants len slot mask limits r (now (run .entry)) (now (other .entry)) (now (run .exit)) (now (other .exit)) ⌝ }
 {
     let mut left = limits;
     let mut s = 0;
     while s < len {
         let e = lists::groups::grapheme_end(run, s, len, slot, mask);
-        merge_acts::merge_run(run, other, merging, level, len, s, e);
+        merge_acts::merge_run(run, other, merging, level, wants, len, s, e);
         left = merge_acts::merge_limits(left, merging, e - s);
         s = e;
     }
@@ -44,18 +45,39 @@ fn merge_each_by(
     swapped: bool,
     merging: bool,
     level: u32,
+    wants: u32,
     limits: Limits,
     len: usize,
     slot: u32,
     mask: u32,
 ) -> Limits
     requires { ⌜ RunRoom len (now first) (now second) ⌝ }
-    ensures { λ r. ⌜ Sided swapped (MergesEach merging level len slot mask limits r) (now (first .entry)) (now (second .entry)) (now (first .exit)) (now (second .exit)) ⌝ }
+    ensures { λ r. ⌜ Sided swapped (MergesEach merging level wants len slot mask limits r) (now (first .entry)) (now (second .entry)) (now (first .exit)) (now (second .exit)) ⌝ }
 {
     if swapped {
-        return merge_each(second, first, merging, level, limits, len, slot, mask);
+        return merge_each(
+            second,
+            first,
+            merging,
+            level,
+            wants,
+            limits,
+            len,
+            slot,
+            mask,
+        );
     }
-    merge_each(first, second, merging, level, limits, len, slot, mask)
+    merge_each(
+        first,
+        second,
+        merging,
+        level,
+        wants,
+        limits,
+        len,
+        slot,
+        mask,
+    )
 }
 
 // 22
@@ -77,6 +99,7 @@ pub fn form_clusters(
             b.swapped,
             merging,
             b.level,
+            b.wants,
             b.limits,
             b.len.0,
             slot,

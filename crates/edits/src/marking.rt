@@ -4,13 +4,14 @@ ghost use mathlib.Core.Bool.{true, false, cond};
 ghost use Prim.Native.Nat.{_≤_};
 ghost use lib.ListN.{length};
 ghost use lib.Seq.{slice};
-ghost use Rattle.records.specs.Ranges.{clusters};
+ghost use Rattle.records.specs.Glyphs.{flagged};
+ghost use Rattle.records.specs.Ranges.{clusters, edit};
 ghost use Rattle.records.specs.View.{glyphs};
 ghost use Rattle.lists.specs.Account.{readLevel};
 ghost use Rattle.lists.specs.inner.Held.{exchanged};
 ghost use Rattle.lists.specs.inner.Verdicts.{Sided};
-ghost use Rattle.edits.specs.Flags.{sought};
-ghost use Rattle.edits.specs.inner.Marks.{flaggedRun, soughtIn, Flaggable, OutFlaggable, Flagged, Marked, OutFlagged};
+ghost use Rattle.edits.specs.Flags.{searchLevel, sought};
+ghost use Rattle.edits.specs.inner.Marks.{flaggedRun, soughtIn, Flaggable, OutFlaggable, Flagged, Marked, OutMarked, OutFlagged};
 use super::flags;
 
 // A plain form on the run.
@@ -122,6 +123,7 @@ fn mark_out_by(
     swapped: bool,
     separate: bool,
     level: u32,
+    wants: u32,
     bits: u32,
     idx: usize,
     out_len: usize,
@@ -129,12 +131,13 @@ fn mark_out_by(
     e: usize,
 )
     requires { ⌜ OutFlaggable idx «out_len» s e (now first) (now second) ⌝ }
-    ensures { λ r. ⌜ Sided swapped (OutFlagged separate true (readLevel level) bits idx «out_len» s e) (now (first .entry)) (now (second .entry)) (now (first .exit)) (now (second .exit)) ⌝ }
+    ensures { λ r. ⌜ Sided swapped (OutFlagged separate true (searchLevel (readLevel level) wants) bits idx «out_len» s e) (now (first .entry)) (now (second .entry)) (now (first .exit)) (now (second .exit)) ⌝ }
 {
-    let m = sought_out(first, second, swapped, separate, level, idx, out_len, s, e);
+    let search = flags::search_level(level, wants);
+    let m = sought_out(first, second, swapped, separate, search, idx, out_len, s, e);
     let out = output_second(swapped, separate);
-    mark_by(first, second, out, level, m, bits, s, out_len);
-    mark_by(first, second, swapped, level, m, bits, idx, e);
+    mark_by(first, second, out, search, m, bits, s, out_len);
+    mark_by(first, second, swapped, search, m, bits, idx, e);
 }
 
 // Every glyph there.
@@ -143,7 +146,6 @@ fn mark_all_by(
     second: &mut [u32],
     swapped: bool,
     separate: bool,
-    level: u32,
     bits: u32,
     idx: usize,
     out_len: usize,
@@ -151,11 +153,12 @@ fn mark_all_by(
     e: usize,
 )
     requires { ⌜ OutFlaggable idx «out_len» s e (now first) (now second) ⌝ }
-    ensures { λ r. ⌜ Sided swapped (OutFlagged separate false (readLevel level) bits idx «out_len» s e) (now (first .entry)) (now (second .entry)) (now (first .exit)) (now (second .exit)) ⌝ }
+    ensures { λ r. ⌜ Sided swapped (OutMarked separate (edit s «out_len» (flagged bits)) (edit idx e (flagged bits))) (now (first .entry)) (now (second .entry)) (now (first .exit)) (now (second .exit)) ⌝ }
 {
     let out = output_second(swapped, separate);
-    flag_by(first, second, out, false, level, bits, s, out_len);
-    flag_by(first, second, swapped, false, level, bits, idx, e);
+    // No level plays a part where every glyph is marked.
+    flag_by(first, second, out, false, 0, bits, s, out_len);
+    flag_by(first, second, swapped, false, 0, bits, idx, e);
 }
 
 // An outbuffer form: of 18 the interior, of 19 every glyph.
@@ -166,13 +169,14 @@ pub(crate) fn flag_out_by(
     separate: bool,
     interiorly: bool,
     level: u32,
+    wants: u32,
     idx: usize,
     out_len: usize,
     s: usize,
     e: usize,
 )
     requires { ⌜ OutFlaggable idx «out_len» s e (now first) (now second) ⌝ }
-    ensures { λ r. ⌜ Sided swapped (OutFlagged separate interiorly (readLevel level) (cond interiorly 3 2) idx «out_len» s e) (now (first .entry)) (now (second .entry)) (now (first .exit)) (now (second .exit)) ⌝ }
+    ensures { λ r. ⌜ Sided swapped (OutFlagged separate interiorly (searchLevel (readLevel level) wants) (cond interiorly 3 2) idx «out_len» s e) (now (first .entry)) (now (second .entry)) (now (first .exit)) (now (second .exit)) ⌝ }
 {
     if interiorly {
         mark_out_by(
@@ -181,6 +185,7 @@ pub(crate) fn flag_out_by(
             swapped,
             separate,
             level,
+            wants,
             3,
             idx,
             out_len,
@@ -188,17 +193,6 @@ pub(crate) fn flag_out_by(
             e,
         );
     } else {
-        mark_all_by(
-            first,
-            second,
-            swapped,
-            separate,
-            level,
-            2,
-            idx,
-            out_len,
-            s,
-            e,
-        );
+        mark_all_by(first, second, swapped, separate, 2, idx, out_len, s, e);
     }
 }

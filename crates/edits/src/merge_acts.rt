@@ -27,6 +27,7 @@ pub(crate) fn merge_by(
     apart: bool,
     merges: bool,
     level: u32,
+    wants: u32,
     idx: usize,
     len: usize,
     out_len: usize,
@@ -34,7 +35,7 @@ pub(crate) fn merge_by(
     e: usize,
 )
     requires { ⌜ MergeRoom len «out_len» s e (now first) (now second) ⌝ }
-    ensures { λ r. ⌜ Sided swapped (Merges apart merges level idx len «out_len» s e) (now (first .entry)) (now (second .entry)) (now (first .exit)) (now (second .exit)) ⌝ }
+    ensures { λ r. ⌜ Sided swapped (Merges apart merges level wants idx len «out_len» s e) (now (first .entry)) (now (second .entry)) (now (first .exit)) (now (second .exit)) ⌝ }
 {
     let n = e - s;
     if n < 2 {
@@ -59,11 +60,12 @@ pub(crate) fn merge_by(
     if 255 < n {
         return;
     }
+    let search = flags::search_level(level, wants);
     if swapped {
-        flags::flag_range(second, level, 3, s, e);
+        flags::flag_range(second, search, 3, s, e);
         return;
     }
-    flags::flag_range(first, level, 3, s, e);
+    flags::flag_range(first, search, 3, s, e);
 }
 
 // A merge of the places s to e of a whole run of len glyphs.
@@ -72,14 +74,28 @@ pub(crate) fn merge_run(
     other: &mut [u32],
     merges: bool,
     level: u32,
+    wants: u32,
     len: usize,
     s: usize,
     e: usize,
 )
     requires { ⌜ MergeRoom len 0 s e (now run) (now other) ⌝ }
-    ensures { λ r. ⌜ MergesRun merges level len s e (now (run .entry)) (now (other .entry)) (now (run .exit)) (now (other .exit)) ⌝ }
+    ensures { λ r. ⌜ MergesRun merges level wants len s e (now (run .entry)) (now (other .entry)) (now (run .exit)) (now (other .exit)) ⌝ }
 {
-    merge_by(run, other, false, false, merges, level, 0, len, 0, s, e);
+    merge_by(
+        run,
+        other,
+        false,
+        false,
+        merges,
+        level,
+        wants,
+        0,
+        len,
+        0,
+        s,
+        e,
+    );
 }
 
 // A merge of the places s to e of the output, which lies apart from the run where it is `separate`.

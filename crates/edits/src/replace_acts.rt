@@ -61,13 +61,14 @@ fn merge_inputs(
     separate: bool,
     merges: bool,
     level: u32,
+    wants: u32,
     idx: usize,
     len: usize,
     out_len: usize,
     end: usize,
 )
     requires { ⌜ MergeRoom len «out_len» idx end (now run) (now other) ⌝ }
-    ensures { λ r. ⌜ Sided false (Merges separate merges level idx len «out_len» idx end) (now (run .entry)) (now (other .entry)) (now (run .exit)) (now (other .exit)) ⌝ }
+    ensures { λ r. ⌜ Sided false (Merges separate merges level wants idx len «out_len» idx end) (now (run .entry)) (now (other .entry)) (now (run .exit)) (now (other .exit)) ⌝ }
 {
     if end - idx < 2 {
         return;
@@ -79,6 +80,7 @@ fn merge_inputs(
         separate,
         merges,
         level,
+        wants,
         idx,
         len,
         out_len,
@@ -95,6 +97,7 @@ fn replace(
     apart: bool,
     merges: bool,
     level: u32,
+    wants: u32,
     idx: usize,
     len: usize,
     out_len: usize,
@@ -104,7 +107,7 @@ fn replace(
     bytes: &[u8],
 )
     requires { ⌜ Replaceable idx len «out_len» «num_in» «num_out» (length (given (now numbers) (now bytes))) (now run) (now other) ⌝ }
-    ensures { λ r. ⌜ Replaces separate apart merges level idx len «out_len» «num_in» «num_out» (given (now (numbers .entry)) (now (bytes .entry))) (now (run .entry)) (now (other .entry)) (now (run .exit)) (now (other .exit)) ⌝ }
+    ensures { λ r. ⌜ Replaces separate apart merges level wants idx len «out_len» «num_in» «num_out» (given (now (numbers .entry)) (now (bytes .entry))) (now (run .entry)) (now (other .entry)) (now (run .exit)) (now (other .exit)) ⌝ }
 {
     merge_inputs(
         run,
@@ -112,6 +115,7 @@ fn replace(
         separate,
         merges,
         level,
+        wants,
         idx,
         len,
         out_len,
@@ -140,6 +144,7 @@ pub(crate) fn replace_by(
     apart: bool,
     merges: bool,
     level: u32,
+    wants: u32,
     idx: usize,
     len: usize,
     out_len: usize,
@@ -149,7 +154,7 @@ pub(crate) fn replace_by(
     bytes: &[u8],
 )
     requires { ⌜ Replaceable idx len «out_len» «num_in» «num_out» (length (given (now numbers) (now bytes))) (now first) (now second) ⌝ }
-    ensures { λ r. ⌜ Sided swapped (Replaces separate apart merges level idx len «out_len» «num_in» «num_out» (given (now (numbers .entry)) (now (bytes .entry)))) (now (first .entry)) (now (second .entry)) (now (first .exit)) (now (second .exit)) ⌝ }
+    ensures { λ r. ⌜ Sided swapped (Replaces separate apart merges level wants idx len «out_len» «num_in» «num_out» (given (now (numbers .entry)) (now (bytes .entry)))) (now (first .entry)) (now (second .entry)) (now (first .exit)) (now (second .exit)) ⌝ }
 {
     if swapped {
         replace(
@@ -159,6 +164,7 @@ pub(crate) fn replace_by(
             apart,
             merges,
             level,
+            wants,
             idx,
             len,
             out_len,
@@ -175,6 +181,7 @@ pub(crate) fn replace_by(
             apart,
             merges,
             level,
+            wants,
             idx,
             len,
             out_len,

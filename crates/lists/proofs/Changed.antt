@@ -67,6 +67,10 @@ module _ (b : Buffer) where
   unfolding stateOf
   state-level = refl
 
+  pub state-wants : (stateOf b) .wants ≡ b .wants
+  unfolding stateOf
+  state-wants = refl
+
   pub paid-size : (n : ℕ) → (withLimitsOf (costs n (b .limits)) b) .limits .allocated ≡ b .limits .allocated
   unfolding withLimitsOf costs
   paid-size n = refl

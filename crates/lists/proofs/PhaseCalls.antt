@@ -34,13 +34,13 @@ module _ {wants : ℕ} {b : Buffer} {f s : List ℕ} {v : Verdict} where
   unfolding freshVerdict
   fresh-unsound h w = record { is = rw h (w .is) }
 
-  pub fresh-bad : sound b f s ≡ true → 3 < wants → Leaves b false (No BadOperand) v → Freshens wants b f s v
+  pub fresh-bad : sound b f s ≡ true → 7 < wants → Leaves b false (No BadOperand) v → Freshens wants b f s v
   unfolding freshVerdict
-  fresh-bad h k w = record { is = rw (h, lt-ltb 3 wants k) (w .is) }
+  fresh-bad h k w = record { is = rw (h, lt-ltb 7 wants k) (w .is) }
 
-  pub fresh-ahead : sound b f s ≡ true → wants ≤ 3 → Leaves b true Done v → Freshens wants b f s v
+  pub fresh-ahead : sound b f s ≡ true → wants ≤ 7 → Leaves b true Done v → Freshens wants b f s v
   unfolding freshVerdict
-  fresh-ahead h k w = record { is = rw (h, le-ltb 3 wants k) (w .is) }
+  fresh-ahead h k w = record { is = rw (h, le-ltb 7 wants k) (w .is) }
 
 -- whichever state the call would leave
 as-still : {b : Buffer} (after : Buffer) {v : Verdict} {a : Answer} → Leaves b false a v → settledAs b after v ≡ reply b a
@@ -53,12 +53,12 @@ as-done {b} after {v} w = ap (λ (x : Bool). cond x (reply after Done) (settled 
 
 pub fresh-meets : (level wants : ℕ) {b : Buffer} {x : Buffer} {f s : List ℕ} {v : Verdict} → Freshens wants b f s v → x ≡ freshBuffer level wants → Meets (λ capacity a. fresh level wants a) b f s (settledAs b x v) f s
 unfolding freshVerdict fresh
-fresh-meets level wants {b} {x} {f} {s} {v} ev ex = by (sound b f s) (ltb 3 wants) refl refl (ev .is)
+fresh-meets level wants {b} {x} {f} {s} {v} ev ex = by (sound b f s) (ltb 7 wants) refl refl (ev .is)
   where
-    by : (p q : Bool) → sound b f s ≡ p → ltb 3 wants ≡ q → v ≡ cond p (cond q (leaving b false (No BadOperand)) (leaving b true Done)) (leaving b false (No Contradiction)) → Meets (λ capacity a. fresh level wants a) b f s (settledAs b x v) f s
+    by : (p q : Bool) → sound b f s ≡ p → ltb 7 wants ≡ q → v ≡ cond p (cond q (leaving b false (No BadOperand)) (leaving b true Done)) (leaving b false (No Contradiction)) → Meets (λ capacity a. fresh level wants a) b f s (settledAs b x v) f s
     by false q h k e = shell-unsound h (as-still x (leaves-is b e))
-    by true true h k e = meets-refused h (record { law = λ run other l. refuse-yes BadOperand _ (ltb 3 wants) k }) (as-still x (leaves-is b e))
-    by true false h k e = shell-accepted h (freshBuffer level wants) (refuse-no BadOperand _ (ltb 3 wants) k ∙ ap accepted (fresh-account level wants f s)) (as-done x (leaves-is b e) ∙ ap (λ (y : Buffer). reply y Done) ex) (fresh-held level wants b f s (sound-held b f s h))
+    by true true h k e = meets-refused h (record { law = λ run other l. refuse-yes BadOperand _ (ltb 7 wants) k }) (as-still x (leaves-is b e))
+    by true false h k e = shell-accepted h (freshBuffer level wants) (refuse-no BadOperand _ (ltb 7 wants) k ∙ ap accepted (fresh-account level wants f s)) (as-done x (leaves-is b e) ∙ ap (λ (y : Buffer). reply y Done) ex) (fresh-held level wants b f s (sound-held b f s h))
 
 -- ---- 03 and 05
 module _ {b : Buffer} {f s : List ℕ} {v : Verdict} where

@@ -188,7 +188,7 @@ begun level wants = outcome (freshAccount level 0) (fresh level wants (freshAcco
 
 begun-empty : (f : ℕ → ℕ) (level wants : ℕ) → renamed f (begun level wants) ≡ begun level wants
 unfolding begun fresh refuse_when_else_ outcome
-begun-empty f level wants = by (ltb 3 wants)
+begun-empty f level wants = by (ltb 7 wants)
   where
     by : (x : Bool) → renamed f (outcome (freshAccount level 0) (cond x (refused BadOperand) (accepted (freshAccount level wants))) .after) ≡ outcome (freshAccount level 0) (cond x (refused BadOperand) (accepted (freshAccount level wants))) .after
     by true = fresh-renamed f level 0

@@ -48,9 +48,9 @@ pub fresh-is : (level wants : ℕ) (l : Limits) → l ≡ freshLimits → record
 unfolding freshBuffer
 fresh-is level wants l e = rw e
 
-pub fresh-refused : (level wants : ℕ) (a : Account ℕ) → 3 < wants → fresh level wants a ≡ refused BadOperand
+pub fresh-refused : (level wants : ℕ) (a : Account ℕ) → 7 < wants → fresh level wants a ≡ refused BadOperand
 unfolding fresh
-fresh-refused level wants a h = refuse-yes BadOperand _ (ltb 3 wants) (lt-ltb 3 wants h)
+fresh-refused level wants a h = refuse-yes BadOperand _ (ltb 7 wants) (lt-ltb 7 wants h)
 
 module _ (level wants : ℕ) where
   pub fresh-account : (f s : List ℕ) → freshAccount level wants ≡ account (freshBuffer level wants) f s
@@ -81,14 +81,14 @@ module _ (level wants : ℕ) where
 
 -- the first buffer
 module _ (level wants : ℕ) {b : Buffer} {r : Reply} where
-  pub begins : wants ≤ 3 → b ≡ freshBuffer level wants → r ≡ reply b Done → Begins level wants r
+  pub begins : wants ≤ 7 → b ≡ freshBuffer level wants → r ≡ reply b Done → Begins level wants r
   unfolding fresh outcome
   begins w eb er = rw (er, eb) (record {
-    is = λ f s. sym (ap (outcome (freshAccount level 0)) (refuse-no BadOperand _ (ltb 3 wants) (le-ltb 3 wants w) ∙ ap accepted (fresh-account level wants f s)));
+    is = λ f s. sym (ap (outcome (freshAccount level 0)) (refuse-no BadOperand _ (ltb 7 wants) (le-ltb 7 wants w) ∙ ap accepted (fresh-account level wants f s)));
     is-sound = fresh-sound level wants;
   })
 
-  pub begins-refused : 3 < wants → b ≡ freshBuffer level 0 → r ≡ reply b (No BadOperand) → Begins level wants r
+  pub begins-refused : 7 < wants → b ≡ freshBuffer level 0 → r ≡ reply b (No BadOperand) → Begins level wants r
   unfolding outcome
   begins-refused w eb er = rw (er, eb) (record {
     is = λ f s. sym (ap (outcome (freshAccount level 0)) (fresh-refused level wants _ w) ∙ ap (λ (a : Account ℕ). record { answer = no (refusalNumber BadOperand); after = a }) (fresh-account level 0 f s));
@@ -96,9 +96,9 @@ module _ (level wants : ℕ) {b : Buffer} {r : Reply} where
   })
 
 -- and its account
-pub begun-fresh : {level wants : ℕ} {r : Reply} → wants ≤ 3 → Begins level wants r → (f s : List ℕ) → account (r .buffer) f s ≡ freshAccount level wants
+pub begun-fresh : {level wants : ℕ} {r : Reply} → wants ≤ 7 → Begins level wants r → (f s : List ℕ) → account (r .buffer) f s ≡ freshAccount level wants
 unfolding fresh outcome
-begun-fresh {level} {wants} w v f s = ap (λ (o : Outcome ℕ). o .after) (v .is f s ∙ ap (outcome (freshAccount level 0)) (refuse-no BadOperand _ (ltb 3 wants) (le-ltb 3 wants w)))
+begun-fresh {level} {wants} w v f s = ap (λ (o : Outcome ℕ). o .after) (v .is f s ∙ ap (outcome (freshAccount level 0)) (refuse-no BadOperand _ (ltb 7 wants) (le-ltb 7 wants w)))
 
 -- the output as the run
 pub swapped-is : (b : Buffer) (x : Bool) → x ≡ cond (b .«have_separate_output») (not (b .swapped)) (b .swapped) → record { idx = record { 0 = 0 }; len = record { 0 = b .«out_len» .0 }; «out_len» = record { 0 = 0 }; phase = Plain; limits = b .limits; level = b .level; wants = b .wants; swapped = x; «have_separate_output» = false } ≡ swappedBuffer b

@@ -7,8 +7,8 @@ use Rattle.lists.specs.Account.{Result, accepted, answered, refuse_when_
 
 module _ {G : Type 0} where
   -- spoiled, "only 00 is then accepted, no list shown": the others test `isSpoiled`, or a phase that it is not
-  unfoldable pub fresh : (level wants : ℕ) → Account G → Result G  -- 00
-  fresh level wants a = refuse BadOperand when ltb 3 wants else accepted (freshAccount level wants)
+  unfoldable pub fresh : (level wants : ℕ) → Account G → Result G  -- 00. "Refusal 4 now starts at wants over 7" (document 02, N11)
+  fresh level wants a = refuse BadOperand when ltb 7 wants else accepted (freshAccount level wants)
   unfoldable pub enter : Account G → Result G  -- 24
   enter a = refuse WrongPhase when isSpoiled a else accepted (limiting (afterEnter (len a)) a)
   unfoldable pub leave : Account G → Result G  -- 25

@@ -180,11 +180,11 @@ pub(crate) fn fresh_buffer(level: u32, wants: u32) -> Buffer
 }
 
 impl Buffer {
-    // The first buffer. Wants over 3 is refusal 4, and the buffer is then the one of wants 0.
+    // The first buffer. Wants over 7 is refusal 4, and the buffer is then the one of wants 0.
     pub fn new(level: u32, wants: u32) -> Reply
         ensures { λ r. ⌜ Begins level wants r ⌝ }
     {
-        if 3 < wants {
+        if 7 < wants {
             return refusal(fresh_buffer(level, 0), Refusal::BadOperand);
         }
         accepted(fresh_buffer(level, wants))

@@ -10,7 +10,7 @@ unfoldable pub refusalNumber : Refusal → ℕ
 refusalNumber Contradiction = 1  -- "slices unequal, not whole glyphs, too long; counters that contradict each other"
 refusalNumber WrongPhase = 2  -- "wrong phase"
 refusalNumber OutOfRange = 3  -- "a place or count outside the lists, or a start past its end in one list"
-refusalNumber BadOperand = 4  -- "slot over 1, wants over 3, fewer glyph numbers than stated"
+refusalNumber BadOperand = 4  -- "slot over 1, wants over 3, fewer glyph numbers than stated"; "now starts at wants over 7" (document 02, N11)
 refusalNumber OverCapacity = 5  -- "needed size within `max_len`, over capacity"
 refusalNumber Unreadable = 6  -- "unknown command byte, operands cut off"
 -- "`ok` or `no` number, returned value if any (1 is true)"

@@ -1,6 +1,7 @@
 // Replays stored lists of commands from standard input and compares every line, as far as harfrust has it, with what
-// harfrust printed for them. A stored list is a capacity, the commands with their length before them, and the text with
-// its length before it; numbers are four bytes, low byte first. Every list starts from a fresh buffer, level and wants 0.
+// harfrust printed for them; in lists that set level 3 with wants bit 2, which harfrust lacks, with what a second program did
+// (compare/README.md). A stored list is a capacity, the commands with their length before them, and the text with its length
+// before it; numbers are four bytes, low byte first. Every list starts from a fresh buffer, level and wants 0.
 ghost use mathlib.Core.Path.{_≡_};
 ghost use Rattle.replay.specs.Lines.{oneMore};
 

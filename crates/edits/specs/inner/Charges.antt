@@ -17,20 +17,20 @@ pub record DecidedBy (R : Type 0) (amend : R → Verdict → Verdict) (call : �
   pub asked : v .acts ≡ true → Ask
   pub acted : v .acts ≡ true → (x : R) {f′ s′ : List ℕ} → length f′ ≡ length f → length s′ ≡ length s → Sided (b .swapped) (Act x) f s f′ s′ → Meets call b f s (settled b (amend x v)) f′ s′
 
--- a buffer whose whole run has n glyphs, its limits l
-abbrev pub running : (level n : ℕ) → Limits → Buffer → Buffer
-running level n l b = record { idx = record { 0 = 0 }; len = record { 0 = n }; «out_len» = record { 0 = 0 }; limits = l; wants = b .wants; phase = b .phase; swapped = b .swapped; «have_separate_output» = b .«have_separate_output»; level = level }
+-- a buffer with this level and wants whose whole run has n glyphs, its limits l
+abbrev pub running : (level wants n : ℕ) → Limits → Buffer → Buffer
+running level wants n l b = record { idx = record { 0 = 0 }; len = record { 0 = n }; «out_len» = record { 0 = 0 }; limits = l; wants = wants; phase = b .phase; swapped = b .swapped; «have_separate_output» = b .«have_separate_output»; level = level }
 
 -- h on the account of every such buffer that is as the call asks, and l becomes l′
-pub record Charges (Asked : Buffer → (run other : List ℕ) → Type 0) (h : Account ℕ → Account ℕ) (level n : ℕ) (l l′ : Limits) (run other run′ other′ : List ℕ) : Type 0 where
-  pub acts : (b : Buffer) → Asked (running level n l b) run other → Acts h (running level n l b) run other (running level n l′ b) run′ other′
+pub record Charges (Asked : Buffer → (run other : List ℕ) → Type 0) (h : Account ℕ → Account ℕ) (level wants n : ℕ) (l l′ : Limits) (run other run′ other′ : List ℕ) : Type 0 where
+  pub acts : (b : Buffer) → Asked (running level wants n l b) run other → Acts h (running level wants n l b) run other (running level wants n l′ b) run′ other′
 
 -- a merge of s..e, and a merge of each grapheme, on every whole run that lies here
-pub record MergesRun (merges : Bool) (level n s e : ℕ) (run other run′ other′ : List ℕ) : Type 0 where
-  pub is : (l : Limits) → Charges WholeInput (merge merges s e) level n l (mergeLimits merges (e - s) l) run other run′ other′
+pub record MergesRun (merges : Bool) (level wants n s e : ℕ) (run other run′ other′ : List ℕ) : Type 0 where
+  pub is : (l : Limits) → Charges WholeInput (merge merges s e) level wants n l (mergeLimits merges (e - s) l) run other run′ other′
 
-pub record MergesEach (merging : Bool) (level n slot mask : ℕ) (l l′ : Limits) (run other run′ other′ : List ℕ) : Type 0 where
-  pub is : Charges WholeInput (λ a. mergedEach merging (groupSizes (continues slot mask) (infos (a .rest))) 0 a) level n l l′ run other run′ other′
+pub record MergesEach (merging : Bool) (level wants n slot mask : ℕ) (l l′ : Limits) (run other run′ other′ : List ℕ) : Type 0 where
+  pub is : Charges WholeInput (λ a. mergedEach merging (groupSizes (continues slot mask) (infos (a .rest))) 0 a) level wants n l l′ run other run′ other′
 
 -- 1E, 21, 22: whether the call goes ahead
 unfoldable pub keyedVerdict : ℕ → Buffer → (first second : List ℕ) → Verdict

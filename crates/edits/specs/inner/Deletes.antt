@@ -24,9 +24,9 @@ lastHas a = let ds = clusters (a .done) in ltb 0 (length ds) && is (firstCluster
 unfoldable pub inheriting : Account ℕ → Account ℕ
 inheriting a = inherited ((current a) .cluster) ((current a) .mask) a
 
--- a buffer at other places, its output apart or not
-abbrev pub laid : (separate : Bool) (level idx len outLen : ℕ) → Buffer → Buffer
-laid separate level i l o b = record { idx = record { 0 = i }; len = record { 0 = l }; «out_len» = record { 0 = o }; limits = b .limits; wants = b .wants; phase = b .phase; swapped = b .swapped; «have_separate_output» = separate; level = level }
+-- a buffer at other places, with this level and wants, its output apart or not
+abbrev pub laid : (separate : Bool) (level wants idx len outLen : ℕ) → Buffer → Buffer
+laid separate level wants i l o b = record { idx = record { 0 = i }; len = record { 0 = l }; «out_len» = record { 0 = o }; limits = b .limits; wants = wants; phase = b .phase; swapped = b .swapped; «have_separate_output» = separate; level = level }
 
 -- a glyph at the cursor, in slices that are large enough
 pub record DeleteRoom (idx len outLen : ℕ) (run other : List ℕ) : Type 0 where
@@ -37,13 +37,13 @@ pub record DeleteRoom (idx len outLen : ℕ) (run other : List ℕ) : Type 0 whe
 
 -- what was found, on the account of every buffer at these places
 pub record NextFound (idx len : ℕ) (run : List ℕ) (t : Bool) : Type 0 where
-  pub is : (b : Buffer) (other : List ℕ) → let x = laid (b .«have_separate_output») (b .level) idx len (b .«out_len» .0) b in Deletable x run other → t ≡ nextHas (accountOf x run other)
+  pub is : (b : Buffer) (other : List ℕ) → let x = laid (b .«have_separate_output») (b .level) (b .wants) idx len (b .«out_len» .0) b in Deletable x run other → t ≡ nextHas (accountOf x run other)
 
 pub record LastFound (separate : Bool) (idx outLen : ℕ) (run other : List ℕ) (t : Bool) : Type 0 where
-  pub is : (b : Buffer) → let x = laid separate (b .level) idx (b .len .0) outLen b in Deletable x run other → t ≡ lastHas (accountOf x run other)
+  pub is : (b : Buffer) → let x = laid separate (b .level) (b .wants) idx (b .len .0) outLen b in Deletable x run other → t ≡ lastHas (accountOf x run other)
 
 pub record Surviving (separate : Bool) (idx len outLen : ℕ) (run other : List ℕ) (t : Bool) : Type 0 where
-  pub is : (b : Buffer) → let x = laid separate (b .level) idx len outLen b in Deletable x run other → t ≡ survives (clusters ((accountOf x run other) .rest)) (clusters ((accountOf x run other) .done))
+  pub is : (b : Buffer) → let x = laid separate (b .level) (b .wants) idx len outLen b in Deletable x run other → t ≡ survives (clusters ((accountOf x run other) .rest)) (clusters ((accountOf x run other) .done))
 
 -- the same, wherever the run lies
 pub record SurvivingBy (swapped separate : Bool) (idx len outLen : ℕ) (f s : List ℕ) (t : Bool) : Type 0 where
@@ -52,12 +52,12 @@ pub record SurvivingBy (swapped separate : Bool) (idx len outLen : ℕ) (f s : L
 
 -- and what was done
 pub record Inherits (separate : Bool) (idx outLen : ℕ) (run other run′ other′ : List ℕ) : Type 0 where
-  pub acts : (b : Buffer) → let x = laid separate (b .level) idx (b .len .0) outLen b in Deletable x run other → Acts inheriting x run other x run′ other′
+  pub acts : (b : Buffer) → let x = laid separate (b .level) (b .wants) idx (b .len .0) outLen b in Deletable x run other → Acts inheriting x run other x run′ other′
   pub own : separate ≡ false → other′ ≡ other
 
 -- the glyph at the cursor goes; `merged`: its cluster went to the next by a merge, which costs 2
-pub record Deletes (separate : Bool) (level idx len outLen : ℕ) (merged : Bool) (run other run′ other′ : List ℕ) : Type 0 where
-  pub acts : (b : Buffer) → let x = laid separate level idx len outLen b in Deletable x run other → Acts (λ a. deleted a) x run other (atPlaces (idx + 1) len outLen (withLimitsOf (mergeLimits merged 2 (b .limits)) x)) run′ other′
+pub record Deletes (separate : Bool) (level wants idx len outLen : ℕ) (merged : Bool) (run other run′ other′ : List ℕ) : Type 0 where
+  pub acts : (b : Buffer) → let x = laid separate level wants idx len outLen b in Deletable x run other → Acts (λ a. deleted a) x run other (atPlaces (idx + 1) len outLen (withLimitsOf (mergeLimits merged 2 (b .limits)) x)) run′ other′
   pub own : separate ≡ false → other′ ≡ other
 
 -- the verdict on the call, once it is known whether two glyphs were merged
@@ -77,8 +77,8 @@ pub record MovesGlyph (positions : Bool) (i k : ℕ) (run other run′ other′ 
   pub other-is : positionsIn other′ ≡ cond positions (set (positionsIn other) k (getD (positionsIn other) i zeroPosition)) (positionsIn other)
 
 -- the glyphs with the key are deleted, on every whole run that lies here, in a phase that has positions where `positions` says so
-pub record Sifts (slot mask value : ℕ) (positions : Bool) (level n : ℕ) (l : Limits) (k : Kept) (run other run′ other′ : List ℕ) : Type 0 where
-  pub acts : (b : Buffer) → WholeInput (running level n l b) run other → positions ≡ positionsPhase (b .phase) → Acts (λ a. keptRun (deletedEach slot mask value (length (a .rest)) a)) (running level n l b) run other (running level (k .len) (k .limits) b) run′ other′
+pub record Sifts (slot mask value : ℕ) (positions : Bool) (level wants n : ℕ) (l : Limits) (k : Kept) (run other run′ other′ : List ℕ) : Type 0 where
+  pub acts : (b : Buffer) → WholeInput (running level wants n l b) run other → positions ≡ positionsPhase (b .phase) → Acts (λ a. keptRun (deletedEach slot mask value (length (a .rest)) a)) (running level wants n l b) run other (running level wants (k .len) (k .limits) b) run′ other′
 
 -- the verdict on it, once it is known what is left
 abbrev pub keptWith : Kept → Verdict → Verdict

@@ -7,7 +7,7 @@ use Rattle.lists.specs.{declared.Buffer.Buffer, declared.Verdict.Verdict}
 use Rattle.lists.specs.{Account.Account, Account.readLevel, inner.Verdicts.settled, inner.Verdicts.Decided}
 use Rattle.edits.specs.{declared.InputBound.InputBound, declared.DoneBound.DoneBound}
 use Rattle.edits.specs.{Flags.inputBound, inner.BoundNumbers.inputNumber, Flags.doneBound, inner.BoundNumbers.doneNumber}
-use Rattle.edits.specs.Flags.{interior, sought, wantsConcat, startOf, endOf, plainForm, outbufferForm, flagOutInterior, flagOutAll}
+use Rattle.edits.specs.Flags.{interior, searchLevel, sought, wantsConcat, startOf, endOf, plainForm, outbufferForm, flagOutInterior, flagOutAll}
 
 -- the run after a plain form
 unfoldable pub flaggedRun : (interiorly : Bool) → ℕ → ℕ → ℕ → ℕ → List (Glyph ℕ) → List (Glyph ℕ)
@@ -67,11 +67,11 @@ pub record FlagsInput (concat : Bool) (start end : InputBound) (b : Buffer) (f s
   pub is : (interiorly : Bool) (bits : ℕ → ℕ)
       → Decided (λ capacity a. plainForm interiorly (not concat || wantsConcat (a .state .wants)) (bits (a .state .wants)) (inputBound start) (inputBound end) a) b f s (settled b v) (v .acts)
       (Flaggable (startOf (inputNumber start)) (endOf (inputNumber end) (b .len .0)) f s)
-      (Flagged interiorly (readLevel (b .level)) (bits (b .wants)) (startOf (inputNumber start)) (endOf (inputNumber end) (b .len .0)))
+      (Flagged interiorly (searchLevel (readLevel (b .level)) (b .wants)) (bits (b .wants)) (startOf (inputNumber start)) (endOf (inputNumber end) (b .len .0)))
 
 -- and on an outbuffer form
 pub record FlagsOut (concat : Bool) (start : DoneBound) (end : InputBound) (b : Buffer) (f s : List ℕ) (v : Verdict) : Type 0 where
   pub is : (interiorly : Bool) (bits : ℕ → ℕ)
       → Decided (λ capacity a. outbufferForm interiorly (not concat || wantsConcat (a .state .wants)) (bits (a .state .wants)) (doneBound start) (inputBound end) a) b f s (settled b v) (v .acts)
       (OutFlaggable (b .idx .0) (b .«out_len» .0) (startOf (doneNumber start)) (endOf (inputNumber end) (b .len .0)) f s)
-      (OutFlagged (b .«have_separate_output») interiorly (readLevel (b .level)) (bits (b .wants)) (b .idx .0) (b .«out_len» .0) (startOf (doneNumber start)) (endOf (inputNumber end) (b .len .0)))
+      (OutFlagged (b .«have_separate_output») interiorly (searchLevel (readLevel (b .level)) (b .wants)) (bits (b .wants)) (b .idx .0) (b .«out_len» .0) (startOf (doneNumber start)) (endOf (inputNumber end) (b .len .0)))

@@ -15,9 +15,9 @@ mergeLimits merges n l = cond merges (cond (leb 2 n) (costs n l) l) l
 abbrev pub liesApart : Buffer → Bool
 liesApart b = outputPhase (b .phase) && b .«have_separate_output»
 
--- a buffer at other places
-abbrev pub placed : (idx len outLen level : ℕ) → Buffer → Buffer
-placed i l o level b = record { idx = record { 0 = i }; len = record { 0 = l }; «out_len» = record { 0 = o }; limits = b .limits; wants = b .wants; phase = b .phase; swapped = b .swapped; «have_separate_output» = b .«have_separate_output»; level = level }
+-- a buffer at other places, with this level and wants
+abbrev pub placed : (idx len outLen level wants : ℕ) → Buffer → Buffer
+placed i l o level wants b = record { idx = record { 0 = i }; len = record { 0 = l }; «out_len» = record { 0 = o }; limits = b .limits; wants = wants; phase = b .phase; swapped = b .swapped; «have_separate_output» = b .«have_separate_output»; level = level }
 
 -- s..e is a range of the run, in slices that are large enough
 pub record MergeRoom (len outLen s e : ℕ) (run other : List ℕ) : Type 0 where
@@ -28,14 +28,14 @@ pub record MergeRoom (len outLen s e : ℕ) (run other : List ℕ) : Type 0 wher
   pub same : length (glyphs run) ≡ length (glyphs other)
 
 -- s..e is merged, or flagged: that is a merge on the account of every buffer at these places
-pub record Merges (apart merges : Bool) (level idx len outLen s e : ℕ) (run other run′ other′ : List ℕ) : Type 0 where
-  pub acts : (b : Buffer) → liesApart b ≡ apart → Mergeful (placed idx len outLen level b) s e run other
-      → Acts (merge merges (s - goneOf (placed idx len outLen level b)) (e - goneOf (placed idx len outLen level b))) (placed idx len outLen level b) run other (withLimitsOf (mergeLimits merges (e - s) (b .limits)) (placed idx len outLen level b)) run′ other′
+pub record Merges (apart merges : Bool) (level wants idx len outLen s e : ℕ) (run other run′ other′ : List ℕ) : Type 0 where
+  pub acts : (b : Buffer) → liesApart b ≡ apart → Mergeful (placed idx len outLen level wants b) s e run other
+      → Acts (merge merges (s - goneOf (placed idx len outLen level wants b)) (e - goneOf (placed idx len outLen level wants b))) (placed idx len outLen level wants b) run other (withLimitsOf (mergeLimits merges (e - s) (b .limits)) (placed idx len outLen level wants b)) run′ other′
   pub apart-only : apart ≡ false → other′ ≡ other
 
 -- 11 and 13, of a call that merges at the levels `at`
 pub record MergesInput (merges : Bool) (s e : InputPlace) (b : Buffer) (f g : List ℕ) (v : Verdict) : Type 0 where
-  pub is : (at : ℕ → Bool) → merges ≡ at (readLevel (b .level)) → (apart : Bool) → apart ≡ liesApart b → Decided (λ capacity a. mergeInput at s e a) b f g (settled b v) (v .acts) (MergeRoom (b .len .0) (b .«out_len» .0) (s .0) (e .0) f g) (Merges apart merges (b .level) (b .idx .0) (b .len .0) (b .«out_len» .0) (s .0) (e .0))
+  pub is : (at : ℕ → Bool) → merges ≡ at (readLevel (b .level)) → (apart : Bool) → apart ≡ liesApart b → Decided (λ capacity a. mergeInput at s e a) b f g (settled b v) (v .acts) (MergeRoom (b .len .0) (b .«out_len» .0) (s .0) (e .0) f g) (Merges apart merges (b .level) (b .wants) (b .idx .0) (b .len .0) (b .«out_len» .0) (s .0) (e .0))
 
 -- s..e is a range of the output, in slices that are large enough
 pub record OutMergeRoom (idx len outLen s e : ℕ) (run other : List ℕ) : Type 0 where
@@ -48,8 +48,8 @@ pub record OutMergeRoom (idx len outLen s e : ℕ) (run other : List ℕ) : Type
 
 -- s..e of the output is merged, on the account of every buffer at these places
 pub record OutMerges (separate merges : Bool) (idx len outLen s e : ℕ) (run other run′ other′ : List ℕ) : Type 0 where
-  pub acts : (b : Buffer) → b .«have_separate_output» ≡ separate → OutMergeful (placed idx len outLen (b .level) b) s e run other
-      → Acts (mergeOut merges s e) (placed idx len outLen (b .level) b) run other (withLimitsOf (mergeLimits merges (e - s) (b .limits)) (placed idx len outLen (b .level) b)) run′ other′
+  pub acts : (b : Buffer) → b .«have_separate_output» ≡ separate → OutMergeful (placed idx len outLen (b .level) (b .wants) b) s e run other
+      → Acts (mergeOut merges s e) (placed idx len outLen (b .level) (b .wants) b) run other (withLimitsOf (mergeLimits merges (e - s) (b .limits)) (placed idx len outLen (b .level) (b .wants) b)) run′ other′
 
 -- 12 and 14
 pub record MergesDone (merges : Bool) (s e : DonePlace) (b : Buffer) (f g : List ℕ) (v : Verdict) : Type 0 where

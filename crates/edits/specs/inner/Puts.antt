@@ -74,12 +74,12 @@ pub record Replaceable (idx len outLen num-in num-out given : ℕ) (f s : List �
   pub enough : num-out ≤ given
 
 -- the inputs merged, which left run₁ and other₁, and then copies of the first stand behind the output
-pub record Replaces (separate apart merges : Bool) (level idx len outLen num-in num-out : ℕ) (gs : List ℕ) (run other run′ other′ : List ℕ) : Type 0 where
+pub record Replaces (separate apart merges : Bool) (level wants idx len outLen num-in num-out : ℕ) (gs : List ℕ) (run other run′ other′ : List ℕ) : Type 0 where
   pub run₁ : List ℕ
   pub other₁ : List ℕ
   pub run-long : length run₁ ≡ length run
   pub other-long : length other₁ ≡ length other
-  pub merged : Sided false (Merges separate merges level idx len outLen idx (idx + num-in)) run other run₁ other₁
+  pub merged : Sided false (Merges separate merges level wants idx len outLen idx (idx + num-in)) run other run₁ other₁
   pub first : Glyph ℕ
   pub first-is : first ≡ getD (glyphs run₁) idx zeroGlyph
   pub wrote : Wrote separate apart outLen (copies (first .info) gs) num-out run₁ other₁ run′ other′
@@ -94,4 +94,4 @@ pub record InfoDecided (g : GlyphInfo) (b : Buffer) (f s : List ℕ) (v : Verdic
 
 -- and of one on 0E
 pub record ReplaceDecided (num-in num-out : ℕ) (gs : List ℕ) (b : Buffer) (f s : List ℕ) (v : Verdict) : Type 0 where
-  pub is : Decided (λ capacity a. replaceGlyphs capacity num-in num-out gs a) b f s (settled b v) (v .acts) (Replaceable (b .idx .0) (b .len .0) (b .«out_len» .0) num-in num-out (length gs) f s) (Replaces (b .«have_separate_output») (v .apart) (clustersMerge (readLevel (b .level))) (b .level) (b .idx .0) (b .len .0) (b .«out_len» .0) num-in num-out gs)
+  pub is : Decided (λ capacity a. replaceGlyphs capacity num-in num-out gs a) b f s (settled b v) (v .acts) (Replaceable (b .idx .0) (b .len .0) (b .«out_len» .0) num-in num-out (length gs) f s) (Replaces (b .«have_separate_output») (v .apart) (clustersMerge (readLevel (b .level))) (b .level) (b .wants) (b .idx .0) (b .len .0) (b .«out_len» .0) num-in num-out gs)

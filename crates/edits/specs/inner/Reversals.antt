@@ -37,5 +37,5 @@ regroups merging slot mask a =
     let b = cond merging (mergedEach true ns 0 a) a in
     withRest (regrouped ns (b .rest)) b
 
-pub record Regroups (phase : Phase) (merging : Bool) (level n slot mask : ℕ) (l l′ : Limits) (run other run′ other′ : List ℕ) : Type 0 where
-  pub is : Charges (InPhase phase) (regroups merging slot mask) level n l l′ run other run′ other′
+pub record Regroups (phase : Phase) (merging : Bool) (level wants n slot mask : ℕ) (l l′ : Limits) (run other run′ other′ : List ℕ) : Type 0 where
+  pub is : Charges (InPhase phase) (regroups merging slot mask) level wants n l l′ run other run′ other′

@@ -35,7 +35,7 @@ liesElsewhere b = b .«have_separate_output» || not (eqb (b .idx .0) (b .«out_
 
 -- 00, 03 and 05: whether the call goes ahead
 unfoldable pub freshVerdict : ℕ → Buffer → (first second : List ℕ) → Verdict
-freshVerdict wants b f s = cond (sound b f s) (cond (ltb 3 wants) (leaving b false (No BadOperand)) (leaving b true Done)) (leaving b false (No Contradiction))
+freshVerdict wants b f s = cond (sound b f s) (cond (ltb 7 wants) (leaving b false (No BadOperand)) (leaving b true Done)) (leaving b false (No Contradiction))
 
 unfoldable pub clearVerdict : Buffer → (first second : List ℕ) → Verdict
 clearVerdict b f s = cond (sound b f s) (cond (outputPhase (b .phase) || spoiledPhase (b .phase)) (leaving b false (No WrongPhase)) (leaving b true Done)) (leaving b false (No Contradiction))

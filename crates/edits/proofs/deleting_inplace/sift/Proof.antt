@@ -7,10 +7,10 @@ use Rattle.edits.proofs.deleting_inplace.sift.Statement.{statement}
 use Rattle.edits.proofs.deleting_inplace.sift.Tie as tie
 
 abbrev Inv-loop : tie.InvT-loop
-Inv-loop run₀ other₀ positions level n slot mask value left₀ out₀ idx₀ run other left out idx = SiftingOf slot mask value positions level n left₀ run₀ other₀ left run other idx out
+Inv-loop run₀ other₀ positions level wants n slot mask value left₀ out₀ idx₀ run other left out idx = SiftingOf slot mask value positions level wants n left₀ run₀ other₀ left run other idx out
 
 abbrev μ-loop : tie.MeasureT-loop
-μ-loop run₀ other₀ positions level n slot mask value left₀ out₀ idx₀ run other left out idx = n - idx
+μ-loop run₀ other₀ positions level wants n slot mask value left₀ out₀ idx₀ run other left out idx = n - idx
 
 loop-again : tie.Need-loop-again Inv-loop μ-loop
 loop-again c = ⊎-elim (λ w. search sifting) (λ w. search sifting) (c .if1 .came)

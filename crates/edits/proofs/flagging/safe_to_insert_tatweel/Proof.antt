@@ -15,4 +15,4 @@ returns : tie.Need-returns
 returns c = let end : tie.Joined1 = search in ⊎-elim (λ w. search (end-acted, plain-tatweel, flagged-at)) (λ w. search (end-still, plain-tatweel)) (end .if1 .came)
 
 pub safe-to-insert-tatweel-spec : {M : Type 1} → statement M
-safe-to-insert-tatweel-spec = tie.close (tie.spec (search needs) (search needs) (search needs) (search needs) (λ c κs. search flag-calls) (search needs) same-length same-length-2 returns)
+safe-to-insert-tatweel-spec = tie.close (tie.spec (search needs) (search needs) (search needs) (search needs) (search needs) (λ c κs. search flag-calls) (search needs) same-length same-length-2 returns)

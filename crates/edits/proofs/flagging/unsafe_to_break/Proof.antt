@@ -15,4 +15,4 @@ returns : tie.Need-returns
 returns c = let end : tie.Joined1 = search in ⊎-elim (λ w. search (end-acted, plain-break, flagged-at)) (λ w. search (end-still, plain-break)) (end .if1 .came)
 
 pub unsafe-to-break-spec : {M : Type 1} → statement M
-unsafe-to-break-spec = tie.close (tie.spec (search needs) (search needs) (search needs) (λ c κs. search flag-calls) (search needs) same-length same-length-2 returns)
+unsafe-to-break-spec = tie.close (tie.spec (search needs) (search needs) (search needs) (search needs) (λ c κs. search flag-calls) (search needs) same-length same-length-2 returns)

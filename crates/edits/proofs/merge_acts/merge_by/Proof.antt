@@ -5,4 +5,4 @@ use Rattle.edits.proofs.merge_acts.merge_by.Statement.{statement}
 use Rattle.edits.proofs.merge_acts.merge_by.Tie as tie
 
 pub merge-by-spec : {M : Type 1} → statement M
-merge-by-spec = tie.close (tie.spec (search needs) (λ c. search merge-acts) (search needs) (search needs) (search needs) (λ c. search (settling, merge-acts)) (search needs) (search needs) (search needs) (λ c. search (settling, merge-acts)) (search needs) (search needs) (λ c. search (settling, merge-acts)) (search needs) (search needs) (λ c. search (settling, merge-acts)) (λ c. search merge-acts) (search needs) (search needs) (λ c. search (settling, merge-acts)) (search needs) (search needs) (λ c. search (settling, merge-acts)))
+merge-by-spec = tie.close (tie.spec (search needs) (λ c. search merge-acts) (search needs) (search needs) (search needs) (λ c. search (settling, merge-acts)) (search needs) (search needs) (search needs) (λ c. search (settling, merge-acts)) (search needs) (search needs) (λ c. search (settling, merge-acts)) (search needs) (search needs) (λ c. search (settling, merge-acts)) (λ c. search merge-acts) (search needs) (search needs) (search needs) (λ c. search (settling, merge-acts)) (search needs) (search needs) (λ c. search (settling, merge-acts)))
