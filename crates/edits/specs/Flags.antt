@@ -1,5 +1,5 @@
 -- Flags: calls 15 to 19.
-use Rattle.records.specs.Library.{ℕ, _+_, _-_, _/_, _%_, _≤_, min, Bool, true, false, cond, not, _&&_, _||_, ltb, Option, none, some, List, take, drop}
+use Rattle.records.specs.Library.{ℕ, _+_, _-_, _/_, _%_, _≤_, min, Bool, false, cond, not, _&&_, _||_, ltb, Option, none, some, List, take, drop}
 use Rattle.records.specs.Library.{slice, _≡_}
 use Rattle.records.specs.{DonePlace, InputPlace, WrongPhase, OutOfRange, Glyphs.Glyph, Glyphs.flagged, Glyphs.flaggedUnless, Ranges.clusters, Ranges.edit}
 use Rattle.records.specs.{Ranges.is, Ranges.isnt, Ranges.least, Ranges.firstCluster, Ranges.lastCluster, Ranges.heads, Ranges.tails}
@@ -90,7 +90,7 @@ module _ {G : Type 0} where
 
 -- ---- what wants bit 2 changes, and that nothing else changes (document 02, N11)
 module _ {G : Type 0} (a : Account G) where
-  -- "Marking every cluster but the least follows level 2's rule in full there.": every glyph of the range that is not of its least cluster is marked
+  -- "every glyph not of m is marked", where m is the least cluster of the whole range, or of both ranges
   pub record SearchesWhole : Type 0 where
     pub plain : (bits i j : ℕ) → 2 ≤ j - i
         → flagInterior bits i j a ≡ withInput (edit i j (flaggedUnless (least (slice i j (clusters (input a)))) bits) (input a)) a
@@ -103,10 +103,10 @@ module _ {G : Type 0} (a : Account G) where
     pub outbuffer : (bits i j : ℕ) → let level = a .state .level in
         let m = min (sought level (drop i (clusters (a .done)))) (sought level (take j (clusters (input a)))) in
         flagOutInterior bits i j a ≡ withDone (interior level m bits i (outLen a) (a .done)) (withInput (interior level m bits 0 j (input a)) a)
-  -- "With the bit clear harfrust stays the measure; with it set the rewritten account is."
+  -- "With the bit clear harfrust stays the measure; with it set the rewritten account is.": level 3 with the bit, and every other case
   pub record Searches : Type 0 where
-    pub set : switches (a .state .level) (a .state .wants) ≡ true → SearchesWhole
-    pub clear : switches (a .state .level) (a .state .wants) ≡ false → SearchesAsBefore
+    pub set : a .state .level ≡ 3 → a .state .wants / 4 % 2 ≡ 1 → SearchesWhole
+    pub clear : (a .state .level ≡ 3 → a .state .wants / 4 % 2 ≡ 1 → ⊥) → SearchesAsBefore
 
 -- ---- Bounds of the flag forms as the account takes them.
 unfoldable pub inputBound : InputBound → Option InputPlace
