@@ -59,6 +59,8 @@ mod commands;
 mod data;
 mod loads;
 mod measure;
+#[path = "../../../compare/src/refusals.rs"]
+mod refusals;
 mod rooms;
 mod sides;
 #[path = "../../../compare/src/theirs.rs"]

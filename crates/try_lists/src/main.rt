@@ -106,8 +106,8 @@ fn plain(b: Buffer, first: &mut [u32], second: &mut [u32]) -> Buffer {
     let b = shown(lists::cursor::clear_positions(b, first, second));
     let b = shown(lists::cursor::skip_glyph(b, first, second));
     let b = shown(lists::cursor::move_to(b, first, second, 0));
-    let b = shown(lists::cursor::fresh(b, first, second, 5, 4));
-    shown(lists::cursor::fresh(b, first, second, 5, 3))
+    let b = shown(lists::cursor::fresh(b, first, second, 5, 8));
+    shown(lists::cursor::fresh(b, first, second, 5, 7))
 }
 
 // The cursor over the run: there, too far, back, and `sync` once more than there is output.
