@@ -1,12 +1,13 @@
 -- By which level clusters are sought and marked: bit 2 of wants switches level 3 to level 2's way (document 02, N11).
 use mathlib.Core.{Path._≡_, Path.refl, Path.ap, Path.ap₂, Path.sym, Path._∙_, Bool.Bool, Bool.true, Bool.false, Bool.cond, Bool._&&_, List.List}
 use Prim.Native.Nat.{ℕ, _-_, _/_, _%_, _≤_, min}
-use borrow.Author.Tests.{eqb-true, eq-eqb, ne-eqb, le-ltb}
+use native.Mathlib.Omega.{arith}
+use borrow.Author.Tests.{eqb-true, leb-true, leb-false, eq-eqb, le-ltb}
 use lib.{Dec.eqb, Dec.leb, Dec.ltb, ListN.take, ListN.drop, Seq.slice}
 use Rattle.records.specs.{Glyphs.Glyph, Ranges.clusters}
 use Rattle.lists.specs.declared.Buffer.{Buffer}
 use Rattle.lists.specs.{Account.Account, Account.State, Account.readLevel, Account.input, Account.outLen, Account.withInput, Account.withDone, Contract.stateOf}
-use Rattle.lists.proofs.Changed.{state-level, state-wants}
+use Rattle.lists.proofs.{Changed.state-level, Changed.state-wants, Simple.low-level, Simple.high-level}
 use Rattle.edits.specs.Flags.{searchLevel, sought, interior, flagInterior, flagOutInterior, SearchesWhole, SearchesAsBefore, Searches}
 use Rattle.edits.specs.inner.Holding.{holds}
 
@@ -39,19 +40,17 @@ module _ (level wants : ℕ) where
 -- what the code's tests say of them
 module _ (level wants : ℕ) where
   pub search-switched : level ≡ 3 → wants / 4 % 2 ≡ 1 → readLevel 2 ≡ searchLevel (readLevel level) wants
-  unfolding readLevel
-  search-switched e w = sym (switched (readLevel level) wants (rw e) w)
+  search-switched e w = sym (low-level 2 (omega arith)) ∙ sym (switched (readLevel level) wants (sym (low-level level (omega (arith, e))) ∙ e) w)
 
   pub search-clear : (wants / 4 % 2 ≡ 1 → ⊥) → readLevel level ≡ searchLevel (readLevel level) wants
   search-clear w = sym (not-switched (readLevel level) wants (λ e. w))
 
   pub search-other : (level ≡ 3 → ⊥) → readLevel level ≡ searchLevel (readLevel level) wants
-  unfolding readLevel searchLevel
-  search-other n = by (leb level 3)
+  search-other n = sym (not-switched (readLevel level) wants (λ e w. n (by (leb level 3) refl e)))
     where
-      by : (x : Bool) → cond x level 0 ≡ searchLevel (cond x level 0) wants
-      by true = rw (ne-eqb level 3 n)
-      by false = refl
+      by : (x : Bool) → leb level 3 ≡ x → readLevel level ≡ 3 → level ≡ 3
+      by true h e = low-level level (leb-true level 3 h) ∙ e
+      by false h e = omega (arith, high-level level (leb-false level 3 h), e)
 
 -- ---- the theorem: with the bit at level 3, the whole range; else as it was
 module _ {G : Type 0} (a : Account G) where
