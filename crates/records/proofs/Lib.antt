@@ -4,8 +4,10 @@ pub mod Counting
 pub mod Edited
 pub mod Examples
 pub mod Executable
-pub mod Fives
+pub mod Made
 pub mod Pairs
+pub mod Places
 pub mod Renaming
+pub mod Stores
 pub mod Tests
 pub mod View

@@ -6,6 +6,7 @@ pub mod bytes;
 pub mod counters;
 pub mod glyphs;
 pub mod positions;
+pub mod words;
 
 // The phase of a buffer. In phase Output some of the input has become output.
 pub enum Phase {
@@ -21,22 +22,25 @@ pub struct DonePlace(pub usize);
 // A place in the input. It never stands for a place in *done*.
 pub struct InputPlace(pub usize);
 
-// A glyph: five words.
+// A glyph: six words.
 pub struct GlyphInfo {
     pub glyph: u32,
     pub mask: u32,
     pub cluster: u32,
     pub var0: u32,
     pub var1: u32,
+    // The number of the push that made it, or 0.
+    pub origin: u32,
 }
 
-// A position: five words, the first four of them signed.
+// A position: six words, the first four of them signed, the last free.
 pub struct Position {
     pub x_advance: u32,
     pub y_advance: u32,
     pub x_offset: u32,
     pub y_offset: u32,
     pub var: u32,
+    pub free: u32,
 }
 
 // The counters that no list shows. max_ops is signed, and held as its word.
@@ -46,6 +50,8 @@ pub struct Limits {
     pub max_ops: u32,
     pub serial: u8,
     pub successful: bool,
+    // Pushes that stored a glyph since fresh.
+    pub pushes: u32,
 }
 
 // Why a call is turned back. specs/Answers.antt has the number of each.

@@ -1,47 +1,42 @@
-// Positions in a slice of words, five words a position.
+// Positions in a slice of words, six words a position, of which the last is free.
 ghost use mathlib.Core.Path.{_≡_};
-ghost use Prim.Native.Nat.{_+_, _<_};
+ghost use Prim.Native.Nat.{_<_};
 ghost use lib.ListN.{length, getD, set};
 ghost use Rattle.records.specs.Glyphs.{zeroPosition};
-ghost use Rattle.records.specs.{View.positionsIn, inner.Stores.positionAt, inner.Stores.putPosition};
+ghost use Rattle.records.specs.View.{positionsIn};
 use super::Position;
-
-fn read(ws: &[u32], at: usize) -> Position
-    requires { ⌜ at + 4 < length (now ws) ⌝ }
-    ensures { λ r. ⌜ r ≡ positionAt (now (ws .entry)) at ⌝ }
-{
-    Position {
-        x_advance: ws[at],
-        y_advance: ws[at + 1],
-        x_offset: ws[at + 2],
-        y_offset: ws[at + 3],
-        var: ws[at + 4],
-    }
-}
-
-fn write(ws: &mut [u32], at: usize, p: Position)
-    requires { ⌜ at + 4 < length (now ws) ⌝ }
-    ensures { λ r. ⌜ now (ws .exit) ≡ putPosition (now (ws .entry)) at p ⌝ }
-{
-    ws[at] = p.x_advance;
-    ws[at + 1] = p.y_advance;
-    ws[at + 2] = p.x_offset;
-    ws[at + 3] = p.y_offset;
-    ws[at + 4] = p.var;
-}
+use super::words;
 
 pub fn get(ws: &[u32], i: usize) -> Position
     requires { ⌜ i < length (positionsIn (now ws)) ⌝ }
     ensures { λ r. ⌜ r ≡ getD (positionsIn (now (ws .entry))) i zeroPosition ⌝ }
 {
-    read(ws, 5 * i)
+    let x_advance = words::word_at(ws, 0, i);
+    let y_advance = words::word_at(ws, 1, i);
+    let x_offset = words::word_at(ws, 2, i);
+    let y_offset = words::word_at(ws, 3, i);
+    let var = words::word_at(ws, 4, i);
+    let free = words::word_at(ws, 5, i);
+    Position {
+        x_advance: x_advance,
+        y_advance: y_advance,
+        x_offset: x_offset,
+        y_offset: y_offset,
+        var: var,
+        free: free,
+    }
 }
 
 pub fn put(ws: &mut [u32], i: usize, p: Position)
     requires { ⌜ i < length (positionsIn (now ws)) ⌝ }
     ensures { λ r. ⌜ positionsIn (now (ws .exit)) ≡ set (positionsIn (now (ws .entry))) i p ⌝ }
 {
-    write(ws, 5 * i, p);
+    words::put_word(ws, 0, i, p.x_advance);
+    words::put_word(ws, 1, i, p.y_advance);
+    words::put_word(ws, 2, i, p.x_offset);
+    words::put_word(ws, 3, i, p.y_offset);
+    words::put_word(ws, 4, i, p.var);
+    words::put_word(ws, 5, i, p.free);
 }
 
 pub fn zero() -> Position
@@ -53,5 +48,6 @@ pub fn zero() -> Position
         x_offset: 0,
         y_offset: 0,
         var: 0,
+        free: 0,
     }
 }

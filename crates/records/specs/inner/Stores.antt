@@ -1,27 +1,19 @@
--- Where words lie: a glyph and a position at an address, and what a store leaves.
-use mathlib.Core.{List.List}
-use Prim.Native.Nat.{ℕ, _+_}
-use lib.{ListN.getD, ListN.set}
-use Rattle.records.specs.{declared.Position.Position, declared.GlyphInfo.GlyphInfo}
+-- What a store of one word leaves, wherever words lie.
+use mathlib.Core.{Path._≡_, List.List}
+use Prim.Native.Nat.{ℕ, _<_}
+use lib.{ListN.length}
+use Rattle.records.specs.Counters.{capacityOf}
 use Rattle.records.specs.Glyphs.{Glyph}
-use Rattle.records.specs.View.{glyphOf}
+use Rattle.records.specs.View.{glyphOf, word}
 
 -- what stands for a glyph past the end
 unfoldable pub zeroGlyph : Glyph ℕ
-zeroGlyph = glyphOf 0 0 4294967295 0 0
+zeroGlyph = glyphOf 0 0 4294967295 0 0 0
 
-abbrev pub infoAt : List ℕ → ℕ → GlyphInfo
-infoAt ws at = record { glyph = getD ws at 0; mask = getD ws (at + 1) 0; cluster = getD ws (at + 2) 0; var0 = getD ws (at + 3) 0; var1 = getD ws (at + 4) 0 }
-
-abbrev pub positionAt : List ℕ → ℕ → Position
-positionAt ws at = record { «x_advance» = getD ws at 0; «y_advance» = getD ws (at + 1) 0; «x_offset» = getD ws (at + 2) 0; «y_offset» = getD ws (at + 3) 0; var = getD ws (at + 4) 0 }
-
--- five stores from a place on
-abbrev pub putFive : List ℕ → ℕ → ℕ → ℕ → ℕ → ℕ → ℕ → List ℕ
-putFive ws at a b c d e = set (set (set (set (set ws at a) (at + 1) b) (at + 2) c) (at + 3) d) (at + 4) e
-
-abbrev pub putInfo : List ℕ → ℕ → GlyphInfo → List ℕ
-putInfo ws at g = putFive ws at (g .glyph) (g .mask) (g .cluster) (g .var0) (g .var1)
-
-abbrev pub putPosition : List ℕ → ℕ → Position → List ℕ
-putPosition ws at p = putFive ws at (p .«x_advance») (p .«y_advance») (p .«x_offset») (p .«y_offset») (p .var)
+-- word c of glyph i is v, and every other word is as it was
+pub record Put (ws ws′ : List ℕ) (c i v : ℕ) : Type 0 where
+  pub col : c < 6
+  pub inside : i < capacityOf (length ws)
+  pub len : length ws′ ≡ length ws
+  pub here : word ws′ c i ≡ v
+  pub rest : (d j : ℕ) → d < 6 → j < capacityOf (length ws) → (d ≡ c → j ≡ i → ⊥) → word ws′ d j ≡ word ws d j

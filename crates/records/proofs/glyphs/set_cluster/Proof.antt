@@ -1,61 +1,57 @@
-use Prim.Native.Nat.{_+_, _*_}
-use lib.ListN.{length-set}
+use mathlib.Core.Path.{sym, _∙_}
 use native.Mathlib.Omega.{arith}
-use Rattle.records.proofs.View.{glyph-room, same-cluster, new-cluster}
+use Rattle.records.proofs.Places.{put-place}
+use Rattle.records.proofs.Stores.{glyph-place, new-cluster, same-cluster}
 use borrow.Author.Needs.{needs}
 use Rattle.records.proofs.glyphs.set_cluster.Statement.{statement}
 use Rattle.records.proofs.glyphs.set_cluster.Tie as tie
 
-mul-at : tie.Need-mul-at
-mul-at c = omega (arith, glyph-room _ _ (c .pre))
+word-at-requires : tie.Need-word-at-requires
+word-at-requires c κs = (omega arith, glyph-place _ _ (c .before .before .pre))
 
-add-at : tie.Need-add-at
-add-at c = omega (arith, glyph-room _ _ (c .pre))
+word-at-requires-2 : tie.Need-word-at-requires-2
+word-at-requires-2 c κs = (omega arith, glyph-place _ _ (c .before .before .before .before .before .pre))
 
-mul-to : tie.Need-mul-to
-mul-to c = omega (arith, glyph-room _ _ (c .pre))
+mul-put-word : tie.Need-mul-put-word
+mul-put-word c = omega arith
 
-add-to : tie.Need-add-to
-add-to c = omega (arith, glyph-room _ _ (c .pre))
+add-put-word : tie.Need-add-put-word
+add-put-word c = omega arith
 
-mul-if1 : tie.Need-mul-if1
-mul-if1 c = omega (arith, glyph-room _ _ (c .pre))
+put-word-requires : tie.Need-put-word-requires
+put-word-requires c κs = (omega arith, glyph-place _ _ (c .before .before .before .before .before .before .before .pre))
 
-slice-read-if1 : tie.Need-slice-read-if1
-slice-read-if1 c = let start : tie.Start = search in omega (arith, glyph-room _ _ (start .pre))
+put-word-requires-2 : tie.Need-put-word-requires-2
+put-word-requires-2 c κs = (omega arith, put-place (c .before .before .before .put-word .ensures))
 
-mul-ws : tie.Need-mul-ws
-mul-ws c = let start : tie.Start = search in omega (arith, glyph-room _ _ (start .pre))
-
-slice-read-ws : tie.Need-slice-read-ws
-slice-read-ws c = let start : tie.Start = search in omega (arith, glyph-room _ _ (start .pre))
-
-mul-ws-2 : tie.Need-mul-ws-2
-mul-ws-2 c = let start : tie.Start = search in omega (arith, c .slice-known2 .given (5 * start .args .i + 1))
-
-add-ws : tie.Need-add-ws
-add-ws c = let start : tie.Start = search in omega (arith, c .slice-known2 .given (5 * start .args .i + 1))
-
-mul-ws-3 : tie.Need-mul-ws-3
-mul-ws-3 c = let start : tie.Start = search in omega (arith, glyph-room _ _ (start .pre))
-
-slice-write-ws : tie.Need-slice-write-ws
-slice-write-ws c = let start : tie.Start = search in omega (arith, glyph-room _ _ (start .pre))
-
-mul-ws-4 : tie.Need-mul-ws-4
-mul-ws-4 c = let start : tie.Start = search in omega (arith, glyph-room _ _ (start .pre))
-
-slice-write-ws-2 : tie.Need-slice-write-ws-2
-slice-write-ws-2 c = let start : tie.Start = search in simp length-set (omega (arith, glyph-room _ _ (start .pre)))
+same-length : tie.Need-same-length
+same-length c = search needs
 
 returns : tie.Need-returns
-returns c = search (new-cluster, needs)
+returns c =
+    let p₂ = c .before .before in
+    let p₁ = p₂ .before .before .before .before in
+    let r₂ = p₁ .before .before in
+    let r₁ = r₂ .before .before .before in
+    new-cluster _ (r₁ .word-at .ensures) (r₂ .before .before .if1 .taken) (r₂ .word-at2 .ensures) (p₁ .put-word .ensures) (p₂ .put-word2 .ensures)
+
+same-length-2 : tie.Need-same-length-2
+same-length-2 c = search needs
 
 returns-2 : tie.Need-returns-2
-returns-2 c = search (same-cluster, needs)
+returns-2 c = same-cluster _ _ (c .before .before .before .before .pre) _ _ (sym (c .before .word-at .ensures) ∙ c .if1 .left)
 
 pub set-cluster-spec : {M : Type 1} → statement M
 set-cluster-spec =
     tie.close
-    (tie.spec mul-at add-at mul-to add-to mul-if1 slice-read-if1 mul-ws slice-read-ws mul-ws-2
-    add-ws mul-ws-3 slice-write-ws mul-ws-4 slice-write-ws-2 (λ c. search needs) returns returns-2)
+    (tie.spec
+    word-at-requires
+    word-at-requires-2
+    mul-put-word
+    add-put-word
+    put-word-requires
+    put-word-requires-2
+    same-length
+    returns
+    same-length-2
+    returns-2)
