@@ -39,6 +39,17 @@ pub data Call : Type 0 where
   c21-delete-glyphs-inplace : (slot mask v : ℕ) → Call
   c22-form-clusters : (slot mask : ℕ) → Call
   c23-propagate-flags c24-enter c25-leave c26-allocate-lig-id : Call
+-- the command byte of a call: "one byte in hexadecimal"
+unfoldable pub commandByte : Call → ℕ
+commandByte c =
+    elim c [ c00-fresh a b ↦ 0 | c01-push a ↦ 1 | c02-set-length a ↦ 2 | c03-clear-output ↦ 3 | c04-sync ↦ 4 | c05-clear-positions ↦ 5
+    | c06-place a b c d e ↦ 6 | c07-next-glyph ↦ 7 | c08-next-glyphs a ↦ 8 | c09-skip-glyph ↦ 9 | c0A-copy-glyph ↦ 10 | c0B-output-glyph ↦ 11
+    | c0C-output-info a b c d ↦ 12 | c0D-replace-glyph ↦ 13 | c0E-replace-glyphs a b ↦ 14 | c0F-delete-glyph ↦ 15 | c10-move-to a ↦ 16
+    | c11-merge-clusters a b ↦ 17 | c12-merge-out-clusters a b ↦ 18 | c13-merge-grapheme-clusters a b ↦ 19 | c14-merge-out-grapheme-clusters a b ↦ 20
+    | c15-unsafe-to-break a b ↦ 21 | c16-unsafe-to-concat a b ↦ 22 | c17-safe-to-insert-tatweel a b ↦ 23 | c18-unsafe-to-break-from-outbuffer a b ↦ 24
+    | c19-unsafe-to-concat-from-outbuffer a b ↦ 25 | c1A-set-masks a b c d ↦ 26 | c1B-reverse ↦ 27 | c1C-reverse-range a b ↦ 28 | c1D-reverse-clusters ↦ 29
+    | c1E-reverse-graphemes a b ↦ 30 | c1F-reset-clusters ↦ 31 | c20-sort a b c d ↦ 32 | c21-delete-glyphs-inplace a b c ↦ 33 | c22-form-clusters a b ↦ 34
+    | c23-propagate-flags ↦ 35 | c24-enter ↦ 36 | c25-leave ↦ 37 | c26-allocate-lig-id ↦ 38 ]
 -- a call and its glyph numbers: "the first operands of 01, 0B, 0C, 0D and the out numbers of 0E"
 pub record Worded (G : Type 0) : Type 0 where
   pub call : Call
@@ -60,7 +71,7 @@ module _ {G : Type 0} (z : G) where
   perform capacity c0A-copy-glyph gs a = copyGlyph capacity a
   perform capacity c0B-output-glyph gs a = outputGlyph capacity (getD gs 0 z) a
   perform capacity (c0C-output-info mask cluster var0 var1) gs a =
-      outputInfo capacity (getD gs 0 z) (record { mask = mask; cluster = cluster; var0 = var0; var1 = var1; position = zeroPosition }) a
+      outputInfo capacity (getD gs 0 z) (record { mask = mask; cluster = cluster; var0 = var0; var1 = var1; origin = 0; position = zeroPosition }) a
   perform capacity c0D-replace-glyph gs a = replaceGlyphs capacity 1 1 (getD gs 0 z ∷ []) a
   perform capacity (c0E-replace-glyphs num-in num-out) gs a = replaceGlyphs capacity num-in num-out gs a
   perform capacity c0F-delete-glyph gs a = deleteGlyph a

@@ -1,12 +1,12 @@
 -- What the customer's demands 2 and 3 and the course regulations claim of whole lists of calls, as types. proofs/Claims has a theorem of each, and
 -- `commands::runs::begin`, which makes the first buffer, promises them. Demand 1 is promised call by call: `Meets` (lists, Contract), `Steps` (Runs).
-use Rattle.records.specs.Library.{ℕ, zero, suc, _/_, _%_, _≤_, _<_, List, [], _∷_, _++_, map, length, _≡_}
+use Rattle.records.specs.Library.{ℕ, zero, suc, _/_, _%_, _≤_, _<_, Option, some, List, [], _∷_, _++_, map, length, _≡_}
 use Rattle.records.specs.{Bytes.word, Glyphs.Glyph}
 use Rattle.lists.specs.{Account.Account, Account.len, Account.idx, Account.outLen, Account.positions, Account.freshAccount, Account.renamed, Account.Outcome}
 use Rattle.lists.specs.{Contract.account, Contract.outcomeOf, Contract.Meets, declared.Buffer.Buffer, declared.Reply.Reply}
 use Rattle.edits.specs.{Flags.Searches, Groups.EveryEntry}
-use Rattle.commands.specs.{Runs.Steps, declared.Step.Step, Texts.layoutRecord, Texts.examText, Texts.deskText, Table.Starred}
-use Rattle.commands.specs.Calls.{Worded, perform, run, Form, unknown, operands, glyphAnd, listed, unreadable, got, words, operand, formOf, runBytes}
+use Rattle.commands.specs.{Origins.FromPushes, Runs.Steps, declared.Step.Step, Texts.layoutRecord, Texts.examText, Texts.deskText, Table.Starred}
+use Rattle.commands.specs.Calls.{Worded, perform, run, Form, unknown, operands, glyphAnd, listed, unreadable, got, words, operand, formOf, readUpTo, runBytes}
 
 -- ---- another glyph number for each: in an outcome, in a call, in bytes. The types leave no number out: a call over H has none of G
 module _ {G H : Type 0} (f : G → H) where
@@ -52,6 +52,7 @@ module _ {G H : Type 0} (f : G → H) where
     pub masks : map (λ g. g .info .mask) m ≡ map (λ g. g .info .mask) l
     pub var0s : map (λ g. g .info .var0) m ≡ map (λ g. g .info .var0) l
     pub var1s : map (λ g. g .info .var1) m ≡ map (λ g. g .info .var1) l
+    pub origins : map (λ g. g .info .origin) m ≡ map (λ g. g .info .origin) l  -- "A renaming never moves an origin." (document 02, N8)
   -- "phase, lengths, cursors, clusters, masks, variable words, positions and counters are the same"; "Counters run from `idx` to `serial` in the account.
   -- Spoiled, no list is compared.": they are empty then
   pub record SameAccount (a : Account G) (b : Account H) : Type 0 where
@@ -64,6 +65,7 @@ module _ {G H : Type 0} (f : G → H) where
     pub max-ops : b .state .limits .«max_ops» ≡ a .state .limits .«max_ops»
     pub successful : b .state .limits .successful ≡ a .state .limits .successful
     pub serial : b .state .limits .serial ≡ a .state .limits .serial
+    pub pushes : b .state .limits .pushes ≡ a .state .limits .pushes
     pub level : b .state .level ≡ a .state .level
     pub wants : b .state .wants ≡ a .state .wants
     pub done : SameList (a .done) (b .done)
@@ -162,6 +164,14 @@ pub record TwoWordingsReturned (b : Buffer) (i j i′ j′ : List ℕ) : Type 0 
       → SameRecords (map returnedOutcome xs) (map returnedOutcome ys)
   pub steps : (script other : List ℕ) (xs ys : List ReturnedAt) → SameEditBytes script other → StepRun script 0 b i j xs → StepRun other 0 b i′ j′ ys
       → SameRecords (map returnedOutcomeAt xs) (map returnedOutcomeAt ys)
+-- "After every list each origin is 0 or the number of a push made since fresh." (document 02, N8): of the account's runs, and of what functions leave
+pub record Origins (level wants : ℕ) (b : Buffer) : Type 0 where
+  pub calls : (m n : ℕ) (ws : List (Worded ℕ)) → let a = freshAccount level wants in FromPushes (map some ws) a (run 0 m n ws a)
+  pub bytes : (m n : ℕ) (script : List ℕ) → let a = freshAccount level wants in FromPushes (readUpTo (length script) script) a (runBytes m n script a)
+  pub calls-returned : (i j : List ℕ) (ws : List (Worded ℕ)) (xs : List Returned)
+      → DirectRun ws b i j xs → FromPushes (map some ws) (account b i j) (map returnedOutcome xs)
+  pub steps-returned : (i j : List ℕ) (script : List ℕ) (xs : List ReturnedAt)
+      → StepRun script 0 b i j xs → FromPushes (readUpTo (length script) script) (account b i j) (map returnedOutcomeAt xs)
 pub record Claims (level wants : ℕ) (b : Buffer) : Type 0 where
   pub demand-2 : Demand2 b
   pub demand-3 : (f : ℕ → ℕ) → f 0 ≡ 0 → Demand3 level wants f
@@ -176,3 +186,5 @@ pub record Claims (level wants : ℕ) (b : Buffer) : Type 0 where
   pub flag-table : EveryEntry
   -- what wants bit 2 changes in the search of level 3, and that it changes nothing else (document 02, N11)
   pub searches : (a : Account ℕ) → Searches a
+  -- the count of pushes, and every origin (document 02, N8)
+  pub origins : Origins level wants b

@@ -44,9 +44,10 @@ countersLine len idx out-len max-ops successful =
     101 ∷ 110 ∷ 100 ∷ ending (decimal len ∷ decimal idx ∷ decimal out-len ∷ signed max-ops ∷ decimal (cond successful 1 0) ∷ [])
 unfoldable pub endLine : Account ℕ → List ℕ
 endLine a = countersLine (len a) (idx a) (outLen a) (a .state .limits .«max_ops») (a .state .limits .successful)
--- "done `o`, passed `p`, input `i`: glyph, cluster, mask, var0, var1"
+-- "done `o`, passed `p`, input `i`: glyph, cluster, mask, var0, var1"; "Glyph lines end with the origin." (document 02, N8)
 unfoldable pub glyphLine : (kind : ℕ) → Glyph ℕ → List ℕ
-glyphLine kind g = kind ∷ ending (map decimal (g .glyph ∷ g .info .cluster ∷ g .info .mask ∷ g .info .var0 ∷ g .info .var1 ∷ []))
+glyphLine kind g =
+    kind ∷ ending (map decimal (g .glyph ∷ g .info .cluster ∷ g .info .mask ∷ g .info .var0 ∷ g .info .var1 ∷ g .info .origin ∷ []))
 -- "positions `x`, five words", of which the first four are signed
 unfoldable pub positionLine : Position → List ℕ
 positionLine q = 120 ∷ ending (signed (q .«x_advance») ∷ signed (q .«y_advance») ∷ signed (q .«x_offset») ∷ signed (q .«y_offset») ∷ decimal (q .var) ∷ [])

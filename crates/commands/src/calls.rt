@@ -48,6 +48,7 @@ fn output_info(b: Buffer, first: &mut [u32], second: &mut [u32], o: Order) -> Re
         cluster: o.c,
         var0: o.d,
         var1: o.e,
+        origin: 0,
     };
     edits::writing::output_info(b, first, second, g)
 }

@@ -53,6 +53,7 @@ fn put_glyph(out: &mut [u8], at: usize, kind: u8, g: GlyphInfo) -> usize
     let k = words::put_word(out, k, g.mask);
     let k = words::put_word(out, k, g.var0);
     let k = words::put_word(out, k, g.var1);
+    let k = words::put_word(out, k, g.origin);
     digits::put(out, k, b'\n')
 }
 

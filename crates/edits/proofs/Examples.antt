@@ -13,7 +13,7 @@ use Rattle.edits.proofs.Executable.{executable}
 
 -- glyph, cluster, mask, var0
 g : ℕ → ℕ → ℕ → ℕ → Glyph ℕ
-g n c m v = record { glyph = n; info = record { mask = m; cluster = c; var0 = v; var1 = 0; position = zeroPosition } }
+g n c m v = record { glyph = n; info = record { mask = m; cluster = c; var0 = v; var1 = 0; origin = 0; position = zeroPosition } }
 
 holding : Phase → ℕ → ℕ → List (Glyph ℕ) → List (Glyph ℕ) → Account ℕ
 holding p wants gone done rest = record { done = done; passed = []; rest = rest; state = record { phase = p; gone = gone; limits = grown 4 freshLimits; level = 0; wants = wants } }

@@ -63,7 +63,7 @@ module _ {b : Buffer} {run other : List ℕ} (v : Held b run other) (h : positio
 
 -- ---- the call
 pub put-placed : (ps : List Position) (xa ya xo yo i : ℕ) {ps′ : List Position} {p : Position} → p ≡ getD ps i zeroPosition
-    → ps′ ≡ set ps i (record { «x_advance» = xa; «y_advance» = ya; «x_offset» = xo; «y_offset» = yo; var = p .var }) → ps′ ≡ set ps i (repositioned xa ya xo yo (getD ps i zeroPosition))
+    → ps′ ≡ set ps i (record { «x_advance» = xa; «y_advance» = ya; «x_offset» = xo; «y_offset» = yo; var = p .var; free = p .free }) → ps′ ≡ set ps i (repositioned xa ya xo yo (getD ps i zeroPosition))
 unfolding repositioned
 put-placed ps xa ya xo yo i {ps′} {p} eg ep = ep ∙ ap (λ (q : Position). set ps i (repositioned xa ya xo yo q)) eg
 

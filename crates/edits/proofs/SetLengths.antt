@@ -3,13 +3,14 @@ use mathlib.Core.{Path._≡_, Path.refl, Path.sym, Path.ap, Path._∙_, Bool.Boo
 use Prim.Native.Nat.{ℕ, _-_, _≤_, _<_}
 use native.Mathlib.Omega.{arith}
 use lib.{ListN.length, ListN.take, ListN.drop, ListN.replicate, Seq.take-all, Seq.take-take, Seq.length-take-le}
-use Rattle.records.specs.{Phase, Position, Contradiction, WrongPhase, Value, No, Glyphs.Glyph, Glyphs.blank, Glyphs.zeroPosition, Counters.capacityOf, Ranges.copies, View.glyphs, View.positionsIn, View.paired}
+use Rattle.records.specs.{Phase, Position, Limits, Contradiction, WrongPhase, Value, No, Glyphs.Glyph, Glyphs.blank, Glyphs.zeroPosition, Counters.capacityOf, Counters.grown, Ranges.copies, View.glyphs, View.positionsIn, View.paired}
 use Rattle.records.proofs.View.{length-paired}
 use Rattle.records.proofs.Pairs.{paired-take, paired-append}
 use Rattle.lists.specs.{declared.Buffer.Buffer, declared.Verdict.Verdict, declared.Room.the-variants.Fits}
 use Rattle.lists.specs.{Account.Account, Account.positionsPhase, Account.len, Account.sized, Account.failing, Account.withRest, inner.Filled.filled, Account.answered, Account.needing, Contract.shown, Contract.accountOf, Contract.sound, inner.Held.roomFor, inner.States.reply, inner.Verdicts.Leaves}
 use Rattle.lists.proofs.Sides.{MeetsIn}
 use Rattle.lists.proofs.{Accounts.len-of, Calls.in-answered, Filling.take-filled, Filling.drop-filled}
+use Rattle.lists.proofs.Inner.{Roomy, roomy-grown}
 use Rattle.lists.proofs.Decisions.{decided-unsound, decided-refused}
 use Rattle.lists.proofs.SoundLaws.{soundness}
 use Rattle.lists.proofs.Refusing.{refusing}
@@ -93,14 +94,16 @@ module _ (n : ℕ) where
     length-is = length-needs _ _ (not-not-whole w) (b .len .0) (len-of b run other (w .held) (w .clean))
 
     length-done : {run′ other′ : List ℕ} → roomFor (capacityOf (length run)) n (b .limits) ≡ Fits → length run′ ≡ length run → length other′ ≡ length other
-        → Lengthened (b .phase) (b .len .0) n run other run′ other′ → MeetsIn (λ capacity a. setLength 0 capacity n a) b run other (reply (longerBuffer n b) (Value 1)) run′ other′
+        → Lengthened (b .phase) (b .len .0) n run other run′ other′ → MeetsIn (λ capacity a. setLength 0 capacity n a) b run other (reply (longerBuffer n (grown n (b .limits)) b) (Value 1)) run′ other′
+    unfolding sized
     length-done {run′} {other′} h lr lo x =
         let more : List (Glyph ℕ) = copies (blank 0) (replicate (n - b .len .0) 0) in
-        in-answered (longerBuffer n b) (longer-side w n h) (longer-beyond w n h run′ other′ lr lo (x .behind)) (other-beyond w n h run′ other′ lr lo (x .other-behind)) (longer-held w n h) 1
-        (length-is ∙ (room-fits w n h _ _ ∙ ap (answered 1) (sym (longer-is w n h run′ other′ lr lo _ (x .is ∙ ap (λ (l : List (Glyph ℕ)). take n l ++ more) (sym (rest-is w)))))))
+        let r : Roomy b n (grown n (b .limits)) run = roomy-grown b run other (w .held) n h in
+        in-answered (longerBuffer n (grown n (b .limits)) b) (longer-side w n (grown n) r) (longer-beyond w n (grown n) r run′ other′ lr lo (x .behind)) (other-beyond w n (grown n) r run′ other′ lr lo (x .other-behind)) (longer-held w n (grown n) r) 1
+        (length-is ∙ (room-fits w n h _ _ ∙ ap (answered 1) (sym (longer-is w n (grown n) r run′ other′ lr lo _ (x .is ∙ ap (λ (l : List (Glyph ℕ)). take n l ++ more) (sym (rest-is w)))))))
         refl
 
-  length-needing : (b : Buffer) → Needing (λ capacity a. setLength 0 capacity n a) b n (Value 1) (Value 0) (RunOf (b .phase) n) (Lengthened (b .phase) (b .len .0) n)
+  length-needing : (b : Buffer) → Needing (λ capacity a. setLength 0 capacity n a) b n (grown n (b .limits)) (Value 1) (Value 0) (RunOf (b .phase) n) (Lengthened (b .phase) (b .len .0) n)
   length-needing b = record {
     then = _;
     sized = λ run other w. length-is w;
@@ -117,8 +120,8 @@ module _ {n : ℕ} {b : Buffer} {f s : List ℕ} {v : Verdict} where
     pub length-not-whole : t ≡ true → Leaves b false (No WrongPhase) v → SetsLength n b f s v
     length-not-whole k w = record { is = decided-refused h (whole-refuses (on-whole-length n) et k) w }
 
-    pub length-ahead : {m : ℕ} → t ≡ false → m ≡ capacityOf (length f) → Lengthens m n (Value 1) (Value 0) b v → SetsLength n b f s v
-    length-ahead k em w = record { is = decided-lengthens h et k (length-needing n b) em w }
+    pub length-ahead : {m : ℕ} {l : Limits} → t ≡ false → m ≡ capacityOf (length f) → l ≡ grown n (b .limits) → Lengthens m n l (Value 1) (Value 0) b v → SetsLength n b f s v
+    length-ahead k em el w = record { is = decided-lengthens h et k (length-needing n b) em (rw el at w) }
 
   pub length-asked : SetsLength n b f s v → v .acts ≡ true → RunOf (b .phase) n f s
   length-asked w t = w .is .asked t

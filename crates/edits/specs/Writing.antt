@@ -1,6 +1,6 @@
 -- Writing: calls 0A to 0E.
 use Rattle.records.specs.Library.{ℕ, _+_, max, cond, not, eqb, ltb, List, [], _∷_, _++_, reverse, length, take, getD}
-use Rattle.records.specs.{WrongPhase, OutOfRange, BadOperand, Glyphs.Glyph, Glyphs.Info, Glyphs.blank, Ranges.infos, Ranges.copies}
+use Rattle.records.specs.{WrongPhase, OutOfRange, BadOperand, Glyphs.Glyph, Glyphs.Info, Glyphs.withOrigin, Glyphs.blank, Ranges.infos, Ranges.copies}
 use Rattle.lists.specs.{Account.Account, Account.hasOutput, Account.outLen, Account.sized, Account.failing, Account.Result, Account.accepted}
 use Rattle.lists.specs.{Account.refuse_when_else_, Account.needing, Cursor.dropping}
 use Rattle.edits.specs.Merging.{merge, clustersMerge}
@@ -8,7 +8,7 @@ use Rattle.edits.specs.Merging.{merge, clustersMerge}
 module _ {G : Type 0} where
   unfoldable pub written : List (Glyph G) → Account G → Account G  -- these glyphs behind *done*
   written l a = record { done = a .done ++ l; passed = a .passed; rest = a .rest; state = a .state }
-  -- "Copies are of its first", and of "the last done glyph" where *rest* is empty
+  -- "Copies are of its first", with its origin ("Copies and replacements take the origin of the glyph they copy.", document 02, N8), and of "the last done glyph" where *rest* is empty
   unfoldable pub model : Account G → Info
   model a = getD (infos (a .rest) ++ reverse (infos (a .done))) 0 (blank 0)
   -- "size `out_len` + glyphs written; if it gives up, nothing else happens": b is the account where n glyphs fit
@@ -25,10 +25,11 @@ module _ {G : Type 0} where
       let b = sized (outLen a + 1) a in
       refuse WrongPhase when not (hasOutput a) else
       writing capacity 1 (cond (eqb (length (a .rest) + outLen a) 0) b (written (copies (model a) (g ∷ [])) b)) a
+  -- "`output_info` and filled glyphs have 0": whatever origin is given (document 02, N8)
   unfoldable pub outputInfo : (capacity : ℕ) → G → Info → Account G → Result G  -- 0C
   outputInfo capacity g i a =
       refuse WrongPhase when not (hasOutput a) else
-      writing capacity 1 (written (copies i (g ∷ [])) (sized (outLen a + 1) a)) a
+      writing capacity 1 (written (copies (withOrigin 0 i) (g ∷ [])) (sized (outLen a + 1) a)) a
   -- "`replace_glyphs` makes its size, merges its inputs, then writes copies of the first (also for 0 inputs)."; "only 0D and 0E drop what they replace";
   -- "All but 0B and 0C need *rest* nonempty."
   unfoldable pub replaceGlyphs : (capacity num-in num-out : ℕ) → List G → Account G → Result G  -- 0E; 0D is that of one by one

@@ -119,7 +119,7 @@ pub fn output_info(b: Buffer, first: &mut [u32], second: &mut [u32], g: GlyphInf
             b.have_separate_output,
             v.apart,
             b.out_len.0,
-            g,
+            records::glyphs::with_origin(g, 0),
         );
     }
     verdicts::settled(b, v)

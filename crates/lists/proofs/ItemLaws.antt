@@ -77,6 +77,9 @@ module _ (p : Phase) {t : Bool} (ps : List Position) {n k : ℕ} (l : n ≤ leng
       let m : length (map OfPosition (take n ps)) ≡ n = length-map (take n ps) OfPosition ∙ length-take-le n ps l in
       rw (sym e ∙ h) (sym (List·getD-eq-default (map OfPosition (take n ps)) Nothing (omega arith)))
 
+pub place-none : (p : Phase) {t : Bool} (ps : List Position) (n k : ℕ) → t ≡ positionsPhase p → t ≡ false → Nothing ≡ getD (map OfPosition (cond (positionsPhase p) (take n ps) [])) k Nothing
+place-none p ps n k e h = rw (sym e ∙ h)
+
 -- ---- where each thing lies
 module _ (b : Buffer) (run other : List ℕ) (v : Held b run other) where
   clean : goneOf b < b .len .0 → spoiledPhase (b .phase) ≡ false
@@ -249,4 +252,4 @@ module _ {b : Buffer} {f s : List ℕ} {t : Bool} (w : Soundness b f s t) where
         count-without q = rw (is-sound w h, e) (sym (counted-plain b f s (is-sound w h) (sym ep ∙ q)))
 
 -- for the proofs of functions
-pub ruleset showing = (soundness, apart-room, done-apart, done-within, item-after, passed-at, rest-at, placed-at, place-at, place-past, item-first, item-second, none-unsound, gone-below, twice-fits, both-fit, count-with-positions, count-without, places-in)
+pub ruleset showing = (soundness, apart-room, done-apart, done-within, item-after, passed-at, rest-at, placed-at, place-at, place-past, place-none, item-first, item-second, none-unsound, gone-below, twice-fits, both-fit, count-with-positions, count-without, places-in)

@@ -3,7 +3,7 @@ ghost use mathlib.Core.Path.{_≡_};
 ghost use Prim.Native.Nat.{_+_, _<_, _≤_};
 ghost use lib.ListN.{length, getD, set, take};
 ghost use Rattle.records.specs.Counters.{capacityOf, rightlyLent};
-ghost use Rattle.records.specs.Glyphs.{blank, change, setCluster, withCluster, withMask, flagged, flaggedUnless, key};
+ghost use Rattle.records.specs.Glyphs.{blank, change, setCluster, withCluster, withMask, withOrigin, flagged, flaggedUnless, key};
 ghost use Rattle.records.specs.Ranges.{clusters};
 ghost use Rattle.records.specs.{View.glyphs, View.Whole, View.seen, inner.Stores.zeroGlyph};
 use super::GlyphInfo;
@@ -73,6 +73,14 @@ pub fn blank(number: u32, cluster: u32) -> GlyphInfo
         var1: 0,
         origin: 0,
     }
+}
+
+pub fn with_origin(g: GlyphInfo, origin: u32) -> GlyphInfo
+    ensures { λ r. ⌜ seen r ≡ change (withOrigin origin) (seen g) ⌝ }
+{
+    let mut r = g;
+    r.origin = origin;
+    r
 }
 
 pub fn cluster_at(ws: &[u32], i: usize) -> u32

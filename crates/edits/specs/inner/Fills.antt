@@ -2,33 +2,33 @@
 use mathlib.Core.{Path._≡_, Bool.true, Bool.false, List.List, List._++_}
 use Prim.Native.Nat.{ℕ, _-_, _<_}
 use lib.ListN.{length, take, drop, replicate, getD, set}
-use Rattle.records.specs.{Phase, InputPlace, Position, OverCapacity, Answer, No, Counters.grown, Glyphs.blank, Glyphs.zeroPosition, Ranges.copies, View.glyphs, View.positionsIn}
+use Rattle.records.specs.{Phase, InputPlace, Position, Limits, OverCapacity, Answer, No, Counters.nextPush, Glyphs.withOrigin, Glyphs.blank, Glyphs.zeroPosition, Ranges.copies, View.glyphs, View.positionsIn}
 use Rattle.lists.specs.{declared.Buffer.Buffer, declared.Verdict.Verdict, declared.Room.Room, declared.Room.the-variants.Fits, declared.Room.the-variants.GivesUp, declared.Room.the-variants.Over}
 use Rattle.lists.specs.{Contract.shown, inner.Held.roomFor, inner.States.atPlaces, inner.States.withLimitsOf, inner.Verdicts.leaving, inner.Verdicts.failedBuffer, inner.Verdicts.settled, inner.Verdicts.Decided}
 use Rattle.edits.specs.{WholeRun.push, WholeRun.setLength, WholeRun.place, inner.Wholes.RunOf}
 
--- a run of n glyphs, and the size for them
-unfoldable pub longerBuffer : ℕ → Buffer → Buffer
-longerBuffer n b = atPlaces (b .idx .0) n (b .«out_len» .0) (withLimitsOf (grown n (b .limits)) b)
+-- a run of n glyphs, with other limits
+unfoldable pub longerBuffer : ℕ → Limits → Buffer → Buffer
+longerBuffer n l b = atPlaces (b .idx .0) n (b .«out_len» .0) (withLimitsOf l b)
 
--- the run gets n glyphs, by what was found of their size
-abbrev pub byLength : Room → ℕ → (there short : Answer) → Buffer → Verdict
-byLength room n there short b = elim room [ Fits ↦ leaving (longerBuffer n b) true there | GivesUp ↦ leaving (failedBuffer b) false short | Over ↦ leaving b false (No OverCapacity) ]
+-- the run gets n glyphs, by what was found of their size, and limits l where it is there
+abbrev pub byLength : Room → ℕ → Limits → (there short : Answer) → Buffer → Verdict
+byLength room n l there short b = elim room [ Fits ↦ leaving (longerBuffer n l b) true there | GivesUp ↦ leaving (failedBuffer b) false short | Over ↦ leaving b false (No OverCapacity) ]
 
-pub record Lengthens (capacity n : ℕ) (there short : Answer) (b : Buffer) (v : Verdict) : Type 0 where
-  pub is : v ≡ byLength (roomFor capacity n (b .limits)) n there short b
+pub record Lengthens (capacity n : ℕ) (l : Limits) (there short : Answer) (b : Buffer) (v : Verdict) : Type 0 where
+  pub is : v ≡ byLength (roomFor capacity n (b .limits)) n l there short b
 
 -- ---- push
 pub record Puttable (at : ℕ) (f s : List ℕ) : Type 0 where
   pub in-first : at < length (glyphs f)
   pub in-second : at < length (glyphs s)
 
-pub record Put (at number cluster : ℕ) (run other run′ other′ : List ℕ) : Type 0 where
-  pub run-is : glyphs run′ ≡ set (glyphs run) at (record { glyph = number; info = blank cluster })
+pub record Put (at number cluster origin : ℕ) (run other run′ other′ : List ℕ) : Type 0 where
+  pub run-is : glyphs run′ ≡ set (glyphs run) at (record { glyph = number; info = withOrigin origin (blank cluster) })
   pub other-is : other′ ≡ other
 
 pub record Pushes (b : Buffer) (f s : List ℕ) (v : Verdict) : Type 0 where
-  pub is : (g c : ℕ) → Decided (λ capacity a. push capacity g c a) b f s (settled b v) (v .acts) (Puttable (b .len .0) f s) (Put (b .len .0) g c)
+  pub is : (g c : ℕ) → Decided (λ capacity a. push capacity g c a) b f s (settled b v) (v .acts) (Puttable (b .len .0) f s) (Put (b .len .0) g c (nextPush (b .limits)))
 
 -- ---- set_length
 -- the first n glyphs of a run of m, with zeros for those that it does not have
@@ -41,9 +41,9 @@ pub record SetsLength (n : ℕ) (b : Buffer) (f s : List ℕ) (v : Verdict) : Ty
   pub is : Decided (λ capacity a. setLength 0 capacity n a) b f s (settled b v) (v .acts) (RunOf (b .phase) n f s) (Lengthened (b .phase) (b .len .0) n)
 
 -- ---- place
--- four numbers of a position; the fifth word stays
+-- four numbers of a position; its other words stay
 unfoldable pub repositioned : ℕ → ℕ → ℕ → ℕ → Position → Position
-repositioned xa ya xo yo p = record { «x_advance» = xa; «y_advance» = ya; «x_offset» = xo; «y_offset» = yo; var = p .var }
+repositioned xa ya xo yo p = record { «x_advance» = xa; «y_advance» = ya; «x_offset» = xo; «y_offset» = yo; var = p .var; free = p .free }
 
 pub record Placeable (i : ℕ) (f s : List ℕ) : Type 0 where
   pub in-first : i < length (positionsIn f)
