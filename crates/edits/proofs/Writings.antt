@@ -4,7 +4,7 @@ use Prim.Native.Nat.{ℕ, suc, _+_, _-_, _≤_, _<_}
 use native.Mathlib.Omega.{arith}
 use borrow.Author.Tests.{le-ltb, lt-ltb, eq-eqb, ne-eqb}
 use lib.{Dec.eqb, Dec.ltb, ListN.length, ListN.take, ListN.getD, Seq.slice, Seq.slice-cons, Seq.slice-empty, Seq.take-suc}
-use Rattle.records.specs.{WrongPhase, OutOfRange, Done, Limits, Counters.capacityOf, Counters.grown, Glyphs.Glyph, Glyphs.Info, Glyphs.blank, Ranges.copies, Ranges.infos, View.glyphs, inner.Stores.zeroGlyph, View.wordsFrom}
+use Rattle.records.specs.{WrongPhase, OutOfRange, Done, Limits, Counters.capacityOf, Counters.grown, Glyphs.Glyph, Glyphs.Info, Glyphs.withOrigin, Glyphs.blank, Ranges.copies, Ranges.infos, View.glyphs, inner.Stores.zeroGlyph, View.wordsFrom}
 use Rattle.records.proofs.{Renaming.append-map}
 use Rattle.lists.proofs.Changed.{other-limits}
 use Rattle.lists.proofs.Showing.{done-list, rest-list}
@@ -143,7 +143,7 @@ module _ (capacity : ℕ) (a : Account ℕ) where
     unfolding copyGlyph writesOne
     copy-writes k w number e = simp (h, k, refusing) (ap (λ (l : List (Glyph ℕ)). writing capacity 1 (written l (sized (outLen a + 1) a)) a) e)
 
-    pub info-writes : (g : ℕ) (w : Info) → outputInfo capacity g w a ≡ writesOne w g capacity a
+    pub info-writes : (g : ℕ) (w : Info) → outputInfo capacity g w a ≡ writesOne (withOrigin 0 w) g capacity a
     unfolding outputInfo writesOne
     info-writes g w = simp (h, refusing)
 
