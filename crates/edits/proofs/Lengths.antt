@@ -5,7 +5,7 @@ use native.Mathlib.Numerals.{add-one}
 use native.Mathlib.Omega.{arith}
 use lib.{ListN.length, ListN.take, ListN.drop, ListN.set, Seq.take-suc-set, Seq.drop-set-lt}
 use Rattle.records.specs.{Limits, Contradiction, WrongPhase, OverCapacity, Answer, Done, No, Answers.said, Glyphs.Glyph, Glyphs.Info, Glyphs.change, Glyphs.withOrigin, Glyphs.blank, Counters.capacityOf, Counters.grown, Counters.nextPush, Counters.counted, Ranges.copies, View.glyphs, View.positionsIn, View.wordsFrom}
-use Rattle.records.proofs.View.{length-glyphs, glyphs-same, beyond-glyphs, beyond-positions, whole-same}
+use Rattle.records.proofs.View.{length-glyphs, glyphs-same, beyond-glyphs, beyond-positions}
 use Rattle.lists.specs.{declared.Buffer.Buffer, declared.Verdict.Verdict, declared.Room.Room, declared.Room.the-variants.Fits, declared.Room.the-variants.GivesUp, declared.Room.the-variants.Over}
 use Rattle.lists.specs.{Account.Account, Account.positionsPhase, Account.hasPositions, Account.len, Account.limiting, Account.sized, Account.failing, Account.withLimits, Account.withRest, Contract.isNo, Account.Result, Account.refused, Account.accepted, Account.needing, Contract.shown, Contract.stateOf, Contract.accountOf, Contract.sound, inner.Held.Soundness, inner.Held.Held, inner.Held.roomFor, inner.States.reply, inner.States.atPlaces, inner.States.withLimitsOf, inner.Verdicts.Leaves, inner.Verdicts.failedBuffer, inner.Verdicts.settled, inner.Verdicts.Decided}
 use Rattle.lists.proofs.Sides.{MeetsIn}
@@ -83,12 +83,12 @@ module _ {b : Buffer} {run other : List ℕ} (w : WholeInput b run other) where
       pub longer-beyond : drop n (glyphs run′) ≡ drop n (glyphs run) → wordsFrom ((longerBuffer n (more (b .limits)) b) .limits .allocated) run′ ≡ wordsFrom ((longerBuffer n (more (b .limits)) b) .limits .allocated) run
       longer-beyond d =
           let m : ℕ = (longerBuffer n (more (b .limits)) b) .limits .allocated in
-          sym (beyond-glyphs m run run′ (w .held .whole) (sym lr) (sym (behind-further n m (glyphs run) (glyphs run′) longer-size d)))
+          beyond-glyphs m run′ run (behind-further n m (glyphs run) (glyphs run′) longer-size d)
 
       pub other-beyond : drop n (positionsIn other′) ≡ drop n (positionsIn other) → wordsFrom ((longerBuffer n (more (b .limits)) b) .limits .allocated) other′ ≡ wordsFrom ((longerBuffer n (more (b .limits)) b) .limits .allocated) other
       other-beyond d =
           let m : ℕ = (longerBuffer n (more (b .limits)) b) .limits .allocated in
-          sym (beyond-positions m other other′ (whole-same run other (w .held .same) (w .held .whole)) (sym lo) (sym (behind-further n m (positionsIn other) (positionsIn other′) longer-size d)))
+          beyond-positions m other′ other (behind-further n m (positionsIn other) (positionsIn other′) longer-size d)
 
 -- ---- a verdict by the size
 module _ {capacity n : ℕ} {l : Limits} {there short : Answer} {b : Buffer} {v : Verdict} {room : Room} (e : room ≡ roomFor capacity n (b .limits)) where
