@@ -2,8 +2,9 @@
 use crate::buffer::{self, Buffer, GlyphInfo, GlyphPosition};
 use crate::BufferFlags;
 
-/// Words of a glyph, and of a position.
-const WORDS: usize = 5;
+/// Words of a glyph, and of a position: harfrust's five, and one that it lacks.
+const WORDS: usize = 6;
+const THEIRS: usize = 5;
 
 /// The two slices, and the numbers that a load tells: idx, len, out_len, phase, max_ops, successful, swapped, separate output; commands.
 pub struct Room {
@@ -19,7 +20,7 @@ impl Room {
 
     pub fn fill(&mut self, data: &[GlyphInfo]) {
         for (words, g) in self.first.chunks_exact_mut(WORDS).zip(data) {
-            words.copy_from_slice(&glyph(g));
+            words[..THEIRS].copy_from_slice(&glyph(g));
         }
     }
 
@@ -32,26 +33,26 @@ impl Room {
         }
         let (run, other) = if self.told[6] == 1 { (&self.second, &self.first) } else { (&self.first, &self.second) };
         for (i, g) in b.info[..b.len].iter().enumerate() {
-            alike("glyph", i, &run[WORDS * i..WORDS * (i + 1)], glyph(g))?;
+            alike("glyph", i, &run[WORDS * i..][..THEIRS], glyph(g))?;
         }
         if b.have_positions {
             for (i, p) in b.pos[..b.len].iter().enumerate() {
-                alike("position", i, &other[WORDS * i..WORDS * (i + 1)], position(p))?;
+                alike("position", i, &other[WORDS * i..][..THEIRS], position(p))?;
             }
         }
         Ok(())
     }
 }
 
-fn alike(what: &str, i: usize, ours: &[u32], theirs: [u32; WORDS]) -> Result<(), String> {
+fn alike(what: &str, i: usize, ours: &[u32], theirs: [u32; THEIRS]) -> Result<(), String> {
     if ours == theirs { Ok(()) } else { Err(format!("{what} {i}: {ours:?}, harfrust's {theirs:?}")) }
 }
 
-fn glyph(g: &GlyphInfo) -> [u32; WORDS] {
+fn glyph(g: &GlyphInfo) -> [u32; THEIRS] {
     [g.glyph_id, g.mask, g.cluster, g.vars[0], g.vars[1]]
 }
 
-fn position(p: &GlyphPosition) -> [u32; WORDS] {
+fn position(p: &GlyphPosition) -> [u32; THEIRS] {
     [p.x_advance as u32, p.y_advance as u32, p.x_offset as u32, p.y_offset as u32, p.var]
 }
 

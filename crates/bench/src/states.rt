@@ -21,6 +21,7 @@ pub fn whole(n: usize, allocated: usize, level: u32, wants: u32) -> Buffer {
             max_ops: 536870911,
             successful: true,
             serial: 0,
+            pushes: 0,
         },
         level: level,
         wants: wants,

@@ -14,7 +14,7 @@ use Rattle.lists.specs.inner.States.{withLimitsOf, atPlaces}
 use Rattle.lists.proofs.Sides.{Moves}
 use Rattle.lists.specs.inner.Moving.{Movable, Returned, BackOver, backVerdict, Backs, shiftVerdict, Shifts, MovesBack}
 use Rattle.lists.specs.inner.Verdicts.{leaving, Leaves, failedBuffer}
-use Rattle.lists.proofs.SoundLaws.{sound-held}
+use Rattle.lists.proofs.SoundLaws.{sound-held, not-overtaken}
 use Rattle.lists.proofs.SizeLaws.{fits-within}
 use Rattle.lists.proofs.ForwardLaws as forths
 use Rattle.lists.proofs.BackLaws as backs
@@ -71,7 +71,7 @@ back-decided {b} {n} {f} {s} {v} w q = by (isNegative (costs n (b .limits) .«ma
             backs.back-within (ready l) (forths.back-moves (ready l) refl refl h (return-moves _ n run other (forths.back-ready (ready l) refl refl) run′ (simp (all, to) at gone) (act .other-is (omega arith)) lr refl) refl);
       }) (λ c.
           let v = sound-held b f s (w .is-sound) in
-          record { same = glyphs-same f s (v .same); idx-in = v .idx-in; grows = omega arith; len-in = omega arith; out-in = omega arith; out-after-in = omega arith; ahead = omega arith; behind = omega (arith, w .in-idx, w .in-out) }) (leaves-is _ refl);
+          record { same = glyphs-same f s (v .same); idx-in = v .idx-in; grows = omega arith; len-in = omega arith; out-in = omega arith; out-after-in = omega arith; ahead = omega arith; behind = omega (arith, w .in-idx, w .in-out); no-overtaking = not-overtaken v }) (leaves-is _ refl);
     })
 
 -- ---- back over the start of the input
@@ -98,12 +98,12 @@ module _ {b : Buffer} {n : ℕ} {f s : List ℕ} (w : BackOver b n f s) where
   pub over-size : left-of b + n < 2 ^ 64
   over-size = let v = sound-held b f s (w .is-sound) in omega (arith, w .in-out)
 
-  over-movable : roomFor (capacityOf (length f)) (left-of b + n) (b .limits) ≡ Fits → (o : ℕ) → b .«out_len» .0 - n ≤ o → o ≤ b .«out_len» .0 → Movable (b .idx .0) (b .len .0) (b .«out_len» .0) (left-of b + n) o f s
+  over-movable : roomFor (capacityOf (length f)) (left-of b + n) (b .limits) ≡ Fits → (o : ℕ) → b .«out_len» .0 - n ≤ o → o ≤ b .«out_len» .0 → Movable (b .«have_separate_output») (b .idx .0) (b .len .0) (b .«out_len» .0) (left-of b + n) o f s
   over-movable fits o h k =
       let v = sound-held b f s (w .is-sound) in
       let l : length (glyphs f) ≡ capacityOf (length f) = length-glyphs f in
       let fit : left-of b + n ≤ capacityOf (length f) = fits-within (capacityOf (length f)) (left-of b + n) (b .limits) (omega arith) fits in
-      record { same = glyphs-same f s (v .same); idx-in = v .idx-in; grows = omega (arith, w .past); len-in = omega arith; out-in = omega arith; out-after-in = omega arith; ahead = omega arith; behind = omega (arith, w .past) }
+      record { same = glyphs-same f s (v .same); idx-in = v .idx-in; grows = omega (arith, w .past); len-in = omega arith; out-in = omega arith; out-after-in = omega arith; ahead = omega arith; behind = omega (arith, w .past); no-overtaking = not-overtaken v }
 
 module _ {b : Buffer} {n m : ℕ} {f s : List ℕ} {v : Verdict} {room : Room} (w : BackOver b n f s) (em : m ≡ capacityOf (length f)) (er : room ≡ roomFor m (left-of b + n) (b .limits)) where
   pub over-refused : room ≡ Over → Leaves b false (No OverCapacity) v → MovesBack n b f s v

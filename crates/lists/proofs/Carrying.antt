@@ -7,7 +7,7 @@ use lib.Seq.{slice, drop-drop, take-take, take-add, take-append-le, drop-at, len
 use Rattle.records.specs.{Glyphs.zeroPosition, View.glyphs, View.positionsIn}
 use Rattle.lists.specs.inner.Copied.{copied}
 use Rattle.lists.specs.inner.Filled.{filled}
-use Rattle.lists.specs.inner.Moving.{Carried, Zeroed}
+use Rattle.lists.specs.inner.Moving.{Passable, Carried, Movable, Zeroed}
 use Rattle.lists.proofs.Filling.{filled-front}
 use Rattle.lists.proofs.Copying.{take-copied, drop-copied, copied-self, drop-take, range-same}
 
@@ -21,6 +21,27 @@ module _ {separate : Bool} {from to n : ℕ} {run other : List ℕ} where
 
   pub carried-within : {run′ : List ℕ} → separate ≡ false → glyphs run′ ≡ copied (glyphs run) to (glyphs run) from n → Carried separate from to n run other run′ other
   carried-within h e = record { run-is = rw h e; other-is = rw h }
+
+-- within the run they go towards the front
+pub downward : {separate : Bool} {from to n : ℕ} {run other : List ℕ} → Passable separate from to n run other → separate ≡ false → (to ≤ from) × (from + n ≤ length (glyphs run))
+downward w h = (w .behind h, w .fits .leaving)
+
+-- what the second slice asks for, where it holds the run
+pub passable-turned : {separate : Bool} {from to n : ℕ} {f s : List ℕ} → Passable separate from to n f s → Passable separate from to n s f
+passable-turned w = let v = w .fits in record { fits = record { same = sym (v .same); leaving = omega (arith, v .same, v .leaving); arriving = omega (arith, v .same, v .arriving) }; behind = w .behind }
+
+pub movable-turned : {separate : Bool} {i l o l′ o′ : ℕ} {f s : List ℕ} → Movable separate i l o l′ o′ f s → Movable separate i l o l′ o′ s f
+movable-turned w = record {
+  same = sym (w .same);
+  idx-in = w .idx-in;
+  grows = w .grows;
+  len-in = omega (arith, w .same, w .len-in);
+  out-in = omega (arith, w .same, w .out-in);
+  out-after-in = omega (arith, w .same, w .out-after-in);
+  ahead = w .ahead;
+  behind = w .behind;
+  no-overtaking = w .no-overtaking;
+}
 
 -- and back
 module _ {A : Type 0} (run other : List A) (separate : Bool) (from to n : ℕ) where
@@ -95,4 +116,4 @@ module _ {A : Type 0} where
   kept-done run run′ other false o h = h refl
 
 -- for the proofs of functions
-pub ruleset carrying = (carried-apart, carried-none, carried-within, returned-apart, returned-none, returned-within, shifted-none, zeroed)
+pub ruleset carrying = (downward, carried-apart, carried-none, carried-within, returned-apart, returned-none, returned-within, shifted-none, zeroed)

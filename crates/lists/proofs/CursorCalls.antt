@@ -12,10 +12,10 @@ use Rattle.lists.specs.Account.{refuse_when_else_, Result, accepted, ans
 use Rattle.lists.specs.Cursor.{enter, leave, allocateLigId, dropping, cursorAt, skipGlyph, nextGlyphs}
 use Rattle.lists.specs.{Contract.accountOf, Contract.sound, inner.Held.Soundness, inner.Held.Held}
 use Rattle.lists.specs.inner.States.{withLimitsOf, atPlaces}
-use Rattle.lists.specs.inner.Moving.{Carriable, Carried}
+use Rattle.lists.specs.inner.Moving.{Passable, Carried}
 use Rattle.lists.specs.inner.Verdicts.{Leaves, wroteBuffer, liesElsewhere, settled, Decided}
 use Rattle.lists.proofs.Accounts.{output-of, spoiled-of, limits-of, limited-of, idx-of, len-of}
-use Rattle.lists.proofs.SoundLaws.{sound-held, is-sound, soundness}
+use Rattle.lists.proofs.SoundLaws.{sound-held, not-overtaken, is-sound, soundness}
 use Rattle.lists.proofs.SizeLaws.{fits-within}
 use Rattle.lists.proofs.Simple.{refuse-yes, refuse-no, cursor-of, dropping-of}
 use Rattle.lists.proofs.Inner.{held-limits, few-left, enough-left}
@@ -109,7 +109,7 @@ module _ {b : Buffer} (p : spoiledPhase (b .phase) ≡ false) where
       ∙ rw (output-of b run other ∙ o) (ap accepted (ap (λ (i : ℕ). cursorAt (i + n) (accountOf b run other)) (idx-of b run other v p) ∙ sym (cursor-of b run other v o p (b .idx .0 + n) (omega (arith, v .idx-in))))))
 
 abbrev NextDecided : Buffer → ℕ → (f s : List ℕ) → Verdict → Type 0
-NextDecided b n f s v = Decided (λ capacity a. nextGlyphs capacity n a) b f s (settled b v) (v .acts) (Carriable (b .idx .0) (b .«out_len» .0) n f s) (Carried (b .«have_separate_output») (b .idx .0) (b .«out_len» .0) n)
+NextDecided b n f s v = Decided (λ capacity a. nextGlyphs capacity n a) b f s (settled b v) (v .acts) (Passable (b .«have_separate_output») (b .idx .0) (b .«out_len» .0) n f s) (Carried (b .«have_separate_output») (b .idx .0) (b .«out_len» .0) n)
 
 module _ {b : Buffer} {f : List ℕ} where
   pub skip-spoiled : spoiledPhase (b .phase) ≡ true → Refuses (λ capacity a. skipGlyph a) b f WrongPhase
@@ -169,12 +169,12 @@ module _ {b : Buffer} {f : List ℕ} where
       }
 
 -- what the act asks for
-pub room-carriable : {b : Buffer} {f s : List ℕ} {n : ℕ} → sound b f s ≡ true → n ≤ b .len .0 - b .idx .0 → Rooms b f n → Carriable (b .idx .0) (b .«out_len» .0) n f s
+pub room-carriable : {b : Buffer} {f s : List ℕ} {n : ℕ} → sound b f s ≡ true → n ≤ b .len .0 - b .idx .0 → Rooms b f n → Passable (b .«have_separate_output») (b .idx .0) (b .«out_len» .0) n f s
 room-carriable {b} {f} {s} {n} h k room =
     let w = sound-held b f s h in
     let l : length (glyphs f) ≡ capacityOf (length f) = length-glyphs f in
     let fit : b .«out_len» .0 + n ≤ capacityOf (length f) = fits-within (capacityOf (length f)) (b .«out_len» .0 + n) (b .limits) (omega arith) (room .law f s (record { long = refl; held = w })) in
-    record { same = glyphs-same f s (w .same); leaving = omega arith; arriving = omega arith }
+    record { fits = record { same = glyphs-same f s (w .same); leaving = omega arith; arriving = omega arith }; behind = not-overtaken w }
 
 -- ---- numbers of the code that stay small
 module _ {b : Buffer} {f s : List ℕ} {t : Bool} (w : Soundness b f s t) (h : t ≡ true) where

@@ -9,9 +9,9 @@ use Rattle.lists.specs.{declared.Buffer.Buffer, declared.Verdict.Verdict
 use Rattle.lists.specs.inner.Copied.{copied}
 use Rattle.lists.specs.inner.Held.{roomFor}
 use Rattle.lists.specs.inner.States.{withLimitsOf, atPlaces}
-use Rattle.lists.specs.inner.Moving.{Carriable, Carried, Movable, Moved, Forwarding, forwardVerdict, Forwards, MovesForward}
+use Rattle.lists.specs.inner.Moving.{Carriable, Passable, Carried, Movable, Moved, Forwarding, forwardVerdict, Forwards, MovesForward}
 use Rattle.lists.specs.inner.Verdicts.{leaving, Leaves, failedBuffer}
-use Rattle.lists.proofs.SoundLaws.{sound-held}
+use Rattle.lists.proofs.SoundLaws.{sound-held, not-overtaken}
 use Rattle.lists.proofs.SizeLaws.{fits-within}
 use Rattle.lists.proofs.SyncLaws.{NextOutput}
 use Rattle.lists.proofs.ForwardLaws as forths
@@ -29,9 +29,12 @@ module _ {separate : Bool} {i l o l′ o′ : ℕ} {run other run′ other′ : 
       → glyphs run′ ≡ copied (glyphs mid) (i + (l′ - l) - (o - o′)) (cond separate (glyphs other) (glyphs mid)) o′ (o - o′) → other′ ≡ other → Moved separate i l o l′ o′ run other run′ other′
   moved-back mid h up long back same = record { forth = λ k. absurd (omega arith); back = λ k. record { mid = mid; long = long; up = up; back = back }; other-is = λ k. same }
 
--- what its second part asks for
-pub back-carriable : {i l o l′ o′ : ℕ} {f s : List ℕ} (mid : List ℕ) → Movable i l o l′ o′ f s → o′ ≤ o → length mid ≡ length f → Carriable o′ (i + (l′ - l) - (o - o′)) (o - o′) mid s
-back-carriable {i} {l} {o} {l′} {o′} {f} {s} mid w h e =
+-- what its parts ask for
+pub forth-carriable : {separate : Bool} {i l o l′ o′ : ℕ} {f s : List ℕ} → Movable separate i l o l′ o′ f s → o < o′ → Passable separate i o (o′ - o) f s
+forth-carriable w h = record { fits = record { same = w .same; leaving = omega (arith, w .ahead, w .grows, w .len-in); arriving = omega (arith, w .out-after-in) }; behind = w .no-overtaking }
+
+pub back-carriable : {separate : Bool} {i l o l′ o′ : ℕ} {f s : List ℕ} (mid : List ℕ) → Movable separate i l o l′ o′ f s → o′ ≤ o → length mid ≡ length f → Carriable o′ (i + (l′ - l) - (o - o′)) (o - o′) mid s
+back-carriable {separate} {i} {l} {o} {l′} {o′} {f} {s} mid w h e =
     let long : length (glyphs mid) ≡ length (glyphs f) = glyphs-same mid f e in
     record { same = omega (arith, w .same); leaving = omega (arith, w .out-in); arriving = omega (arith, w .behind, w .len-in, w .idx-in, w .grows) }
 
@@ -40,12 +43,12 @@ module _ {b : Buffer} {n : ℕ} {f s : List ℕ} (w : Forwarding b n f s) where
   forth : {run other : List ℕ} → Lying b f run other → NextOutput b n run other
   forth l = record { held = l .held; output = w .output; in-len = w .in-len }
 
-  forth-movable : roomFor (capacityOf (length f)) (b .«out_len» .0 + n) (b .limits) ≡ Fits → Movable (b .idx .0) (b .len .0) (b .«out_len» .0) (b .len .0) (b .«out_len» .0 + n) f s
+  forth-movable : roomFor (capacityOf (length f)) (b .«out_len» .0 + n) (b .limits) ≡ Fits → Movable (b .«have_separate_output») (b .idx .0) (b .len .0) (b .«out_len» .0) (b .len .0) (b .«out_len» .0 + n) f s
   forth-movable fits =
       let v = sound-held b f s (w .is-sound) in
       let l : length (glyphs f) ≡ capacityOf (length f) = length-glyphs f in
       let fit : b .«out_len» .0 + n ≤ capacityOf (length f) = fits-within (capacityOf (length f)) (b .«out_len» .0 + n) (b .limits) (omega arith) fits in
-      record { same = glyphs-same f s (v .same); idx-in = v .idx-in; grows = omega arith; len-in = omega arith; out-in = omega arith; out-after-in = omega arith; ahead = omega (arith, w .in-len); behind = omega arith }
+      record { same = glyphs-same f s (v .same); idx-in = v .idx-in; grows = omega arith; len-in = omega arith; out-in = omega arith; out-after-in = omega arith; ahead = omega (arith, w .in-len); behind = omega arith; no-overtaking = not-overtaken v }
 
 module _ {b : Buffer} {n m : ℕ} {f s : List ℕ} {v : Verdict} {room : Room} (w : Forwarding b n f s) (em : m ≡ capacityOf (length f)) (er : room ≡ roomFor m (b .«out_len» .0 + n) (b .limits)) where
   pub forward-over : room ≡ Over → Leaves b false (No OverCapacity) v → MovesForward n b f s v
@@ -93,4 +96,4 @@ module _ {n : ℕ} {b : Buffer} {v : Verdict} {m : ℕ} {j k : Limits} {x : Buff
   forwards-goes h ey q = let paid = forths.paid-is (b .«out_len» .0 + n) n (b .limits) em ej ek in record { is = rw (forths.negative-is _ paid et h) (q .is ∙ ap (λ (u : Buffer). leaving u true (Value 1)) (ey ∙ (ap (λ (i : ℕ). atPlaces (b .idx .0 + n) (b .len .0) i x) em ∙ ap (atPlaces (b .idx .0 + n) (b .len .0) (b .«out_len» .0 + n)) (ex ∙ ap (λ (l : Limits). withLimitsOf l b) paid)))) }
 
 -- for the proofs of functions
-pub ruleset forward-calls = (moved-forth, moved-back, back-carriable, forward-size, forward-goes, forward-fails, forward-over, forwards-spent, forwards-goes)
+pub ruleset forward-calls = (moved-forth, moved-back, forth-carriable, back-carriable, forward-size, forward-goes, forward-fails, forward-over, forwards-spent, forwards-goes)

@@ -14,7 +14,7 @@ use Rattle.lists.specs.{Contract.accountOf, Contract.sound, inner.Held.r
 use Rattle.lists.specs.inner.States.{reply, withLimitsOf, atPlaces, freshBuffer, openedBuffer, positionedBuffer, spoiledBuffer, swappedBuffer}
 use Rattle.lists.specs.Contract.{Meets}
 use Rattle.lists.proofs.Sides.{MeetsIn}
-use Rattle.lists.specs.inner.Moving.{Carriable, Carried, Zeroed}
+use Rattle.lists.specs.inner.Moving.{Passable, Carried, Zeroed}
 use Rattle.lists.specs.inner.Verdicts.{leaving, Leaves, Sized, bySize, wroteBuffer, failedBuffer, liesElsewhere, freshVerdict, clearVerdict, Freshens, Clears, settledBuffer, settled, settledAs, synced, Sided, Decided}
 use Rattle.lists.proofs.Accounts.{output-of, spoiled-of, places-in}
 use Rattle.lists.proofs.SoundLaws.{sound-held, soundness}
@@ -158,7 +158,7 @@ abbrev rest-of : Buffer → ℕ
 rest-of b = b .len .0 - b .idx .0
 
 abbrev SyncDecided : Buffer → (f s : List ℕ) → Verdict → Type 0
-SyncDecided b f s v = Decided (λ capacity a. sync capacity a) b f s (synced b v) (v .acts) ((b .idx .0 ≤ b .len .0) × Carriable (b .idx .0) (b .«out_len» .0) (rest-of b) f s) (Carried (b .«have_separate_output») (b .idx .0) (b .«out_len» .0) (rest-of b))
+SyncDecided b f s v = Decided (λ capacity a. sync capacity a) b f s (synced b v) (v .acts) ((b .idx .0 ≤ b .len .0) × Passable (b .«have_separate_output») (b .idx .0) (b .«out_len» .0) (rest-of b) f s) (Carried (b .«have_separate_output») (b .idx .0) (b .«out_len» .0) (rest-of b))
 
 pub sync-decided : {b : Buffer} {f s : List ℕ} {v : Verdict} {m : ℕ} {t : Bool} → sound b f s ≡ true → outputPhase (b .phase) ≡ true → b .limits .successful ≡ true → m ≡ capacityOf (length f) → t ≡ liesElsewhere b → Sized m b (rest-of b) (rest-of b) t v → SyncDecided b f s v
 unfolding synced settledBuffer wroteBuffer failedBuffer withLimitsOf atPlaces

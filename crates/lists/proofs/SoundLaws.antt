@@ -172,3 +172,11 @@ module _ {b : Buffer} {f s : List ℕ} {t : Bool} (w : Soundness b f s t) where
 pub ruleset soundness = (is-sound, is-unsound, held-first, held-second)
 
 pub ruleset ordering = (order-idx, order-len, order-all, order-most, tested-whole, tested-lent)
+
+-- an output that lies in the run does not overtake the cursor, in any phase
+pub not-overtaken : {b : Buffer} {run other : List ℕ} → Held b run other → b .«have_separate_output» ≡ false → b .«out_len» .0 ≤ b .idx .0
+not-overtaken {b} v h = by-test (outputPhase (b .phase)) refl
+  where
+    by-test : (t : Bool) → outputPhase (b .phase) ≡ t → b .«out_len» .0 ≤ b .idx .0
+    by-test true e = v .behind e h
+    by-test false e = omega (arith, v .none e)

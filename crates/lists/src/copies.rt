@@ -19,7 +19,7 @@ pub fn copy_across(src: &[u32], dst: &mut [u32], from: usize, to: usize, n: usiz
 }
 
 // Towards the front, from the first on.
-fn copy_down(ws: &mut [u32], from: usize, to: usize, n: usize)
+pub(crate) fn copy_down(ws: &mut [u32], from: usize, to: usize, n: usize)
     requires { ⌜ (to ≤ from) × (from + n ≤ length (glyphs (now ws))) ⌝ }
     ensures { λ r. ⌜ glyphs (now (ws .exit)) ≡ copied (glyphs (now (ws .entry))) to (glyphs (now (ws .entry))) from n ⌝ }
 {

@@ -5,12 +5,12 @@ ghost use Prim.Native.Nat.{_+_, _≤_};
 ghost use lib.ListN.{length};
 ghost use Rattle.records.specs.View.{glyphs, positionsIn};
 ghost use Rattle.lists.specs.inner.Copied.{copied};
-ghost use Rattle.lists.specs.inner.Moving.{Carried, Carriable, Moved, Movable, Zeroed};
+ghost use Rattle.lists.specs.inner.Moving.{Carried, Carriable, Passable, Moved, Movable, Zeroed};
 ghost use Rattle.lists.specs.inner.Verdicts.{Sided};
 
 // n glyphs of the run, from place `from` on, go to place `to` of the output. Where they lie there already, nothing is written.
 fn carry(run: &mut [u32], other: &mut [u32], separate: bool, from: usize, to: usize, n: usize)
-    requires { ⌜ Carriable from to n (now run) (now other) ⌝ }
+    requires { ⌜ Passable separate from to n (now run) (now other) ⌝ }
     ensures { λ r. ⌜ Carried separate from to n (now (run .entry)) (now (other .entry)) (now (run .exit)) (now (other .exit)) ⌝ }
 {
     if separate {
@@ -20,7 +20,7 @@ fn carry(run: &mut [u32], other: &mut [u32], separate: bool, from: usize, to: us
     if from == to {
         return;
     }
-    super::copies::copy_within(run, from, to, n);
+    super::copies::copy_down(run, from, to, n);
 }
 
 // The same, wherever the run lies.
@@ -33,7 +33,7 @@ pub(crate) fn carry_by(
     to: usize,
     n: usize,
 )
-    requires { ⌜ Carriable from to n (now first) (now second) ⌝ }
+    requires { ⌜ Passable separate from to n (now first) (now second) ⌝ }
     ensures { λ r. ⌜ Sided swapped (Carried separate from to n) (now (first .entry)) (now (second .entry)) (now (first .exit)) (now (second .exit)) ⌝ }
 {
     if swapped {
@@ -80,7 +80,7 @@ fn move_run(
     len_after: usize,
     out_after: usize,
 )
-    requires { ⌜ Movable idx len «out_len» «len_after» «out_after» (now run) (now other) ⌝ }
+    requires { ⌜ Movable separate idx len «out_len» «len_after» «out_after» (now run) (now other) ⌝ }
     ensures { λ r. ⌜ Moved separate idx len «out_len» «len_after» «out_after» (now (run .entry)) (now (other .entry)) (now (run .exit)) (now (other .exit)) ⌝ }
 {
     if out_len < out_after {
@@ -105,7 +105,7 @@ pub(crate) fn move_by(
     len_after: usize,
     out_after: usize,
 )
-    requires { ⌜ Movable idx len «out_len» «len_after» «out_after» (now first) (now second) ⌝ }
+    requires { ⌜ Movable separate idx len «out_len» «len_after» «out_after» (now first) (now second) ⌝ }
     ensures { λ r. ⌜ Sided swapped (Moved separate idx len «out_len» «len_after» «out_after») (now (first .entry)) (now (second .entry)) (now (first .exit)) (now (second .exit)) ⌝ }
 {
     if swapped {

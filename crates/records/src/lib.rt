@@ -48,10 +48,10 @@ pub struct Limits {
     pub allocated: usize,
     pub max_len: usize,
     pub max_ops: u32,
-    pub serial: u8,
-    pub successful: bool,
     // Pushes that stored a glyph since fresh.
     pub pushes: u32,
+    pub serial: u8,
+    pub successful: bool,
 }
 
 // Why a call is turned back. specs/Answers.antt has the number of each.

@@ -18,13 +18,18 @@ pub record Carriable (from to n : ℕ) (f s : List ℕ) : Type 0 where
   pub leaving : from + n ≤ length (glyphs f)
   pub arriving : to + n ≤ length (glyphs f)
 
+-- the same to the output, which does not overtake the cursor where it lies in the run
+pub record Passable (separate : Bool) (from to n : ℕ) (f s : List ℕ) : Type 0 where
+  pub fits : Carriable from to n f s
+  pub behind : separate ≡ false → to ≤ from
+
 -- n glyphs of the run, from place `from` on, went to place `to` of the output
 pub record Carried (separate : Bool) (from to n : ℕ) (run other run′ other′ : List ℕ) : Type 0 where
   pub run-is : glyphs run′ ≡ cond separate (glyphs run) (copied (glyphs run) to (glyphs run) from n)
   pub other-is : glyphs other′ ≡ cond separate (copied (glyphs other) to (glyphs run) from n) (glyphs other)
 
 -- places before the cursor's move, lengths after it
-pub record Movable (i l o l′ o′ : ℕ) (f s : List ℕ) : Type 0 where
+pub record Movable (separate : Bool) (i l o l′ o′ : ℕ) (f s : List ℕ) : Type 0 where
   pub same : length (glyphs f) ≡ length (glyphs s)
   pub idx-in : i ≤ l
   pub grows : l ≤ l′
@@ -33,6 +38,7 @@ pub record Movable (i l o l′ o′ : ℕ) (f s : List ℕ) : Type 0 where
   pub out-after-in : o′ ≤ length (glyphs f)
   pub ahead : i + (o′ - o) ≤ l
   pub behind : o - o′ ≤ i + (l′ - l)
+  pub no-overtaking : separate ≡ false → o ≤ i
 
 -- the input went up by k, which left `mid`, and then n glyphs of the output, from place `from` on, went back to place `to` of the run
 pub record Returned (separate : Bool) (i l k from to n : ℕ) (run other run′ : List ℕ) : Type 0 where
@@ -102,7 +108,7 @@ pub record Shifts (n : ℕ) (b : Buffer) (v : Verdict) : Type 0 where
 
 -- what is promised of a verdict on `move_to` and its parts
 abbrev MoveDecided : (ℕ → Account ℕ → Result ℕ) → Buffer → (f s : List ℕ) → Verdict → Type 0
-MoveDecided call b f s v = Decided call b f s (settled b v) (v .acts) (Movable (b .idx .0) (b .len .0) (b .«out_len» .0) (v .len) (v .«out_len») f s) (Moved (b .«have_separate_output») (b .idx .0) (b .len .0) (b .«out_len» .0) (v .len) (v .«out_len»))
+MoveDecided call b f s v = Decided call b f s (settled b v) (v .acts) (Movable (b .«have_separate_output») (b .idx .0) (b .len .0) (b .«out_len» .0) (v .len) (v .«out_len») f s) (Moved (b .«have_separate_output») (b .idx .0) (b .len .0) (b .«out_len» .0) (v .len) (v .«out_len»))
 
 pub record MovesForward (n : ℕ) (b : Buffer) (f s : List ℕ) (v : Verdict) : Type 0 where
   pub is : MoveDecided (λ capacity a. forward capacity n a) b f s v
