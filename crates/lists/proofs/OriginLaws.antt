@@ -1,7 +1,7 @@
 -- Origins and the count of pushes: n were drawn, and each origin is within n. The calls of this crate keep it so.
 use mathlib.Core.{Path._≡_, Path.refl, Bool.Bool, Bool.true, Bool.false, Bool.cond, List.List, List.[], List._∷_, List._++_, List.map, List.reverseAux}
 use Prim.Native.Nat.{ℕ, zero, suc, _≤_, zero-le}
-use native.Mathlib.Omega.{arith}
+use native.Mathlib.Nat.{le-trans}
 use lib.ListN.{take, drop, getD}
 use Rattle.records.specs.{Refusal, Glyphs.Glyph, Glyphs.Info, Glyphs.change, Glyphs.withPosition, Glyphs.blank, Ranges.infos, Ranges.edit, Ranges.copies}
 use Rattle.records.specs.Counters.{freshLimits, costs, failed, grown, limited, afterEnter, afterLeave, withSerial}
@@ -45,6 +45,10 @@ module _ {G : Type 0} {n : ℕ} where
   pub within-reverse : {k l : List (Glyph G)} → Within n k → Within n l → Within n (reverseAux k l)
   within-reverse none w = w
   within-reverse (more h v) w = within-reverse v (more h w)
+
+  pub within-larger : {m : ℕ} {l : List (Glyph G)} → m ≤ n → Within m l → Within n l
+  within-larger h none = none
+  within-larger h (more p w) = more (le-trans p h) (within-larger h w)
 
   pub within-cond : (b : Bool) {k l : List (Glyph G)} → Within n k → Within n l → Within n (cond b k l)
   within-cond true v w = v
