@@ -1,5 +1,5 @@
 -- The calls of this crate leave the count of pushes, and each origin within it: flags, merging, deletion and writing.
-use mathlib.Core.{Path._≡_, Path.refl, Bool.Bool, Bool.true, Bool.false, Bool.cond, Option.Option, List.List, List.map}
+use mathlib.Core.{Path._≡_, Path.refl, Bool.Bool, Bool.true, Bool.false, Bool.cond, Option.Option, List.List}
 use Prim.Native.Nat.{ℕ, zero, suc, _≤_, zero-le}
 use Rattle.records.specs.{DonePlace, InputPlace, Glyphs.Glyph, Glyphs.Info, Glyphs.withMask, Glyphs.withCluster, Glyphs.withOrigin, Glyphs.setCluster, Glyphs.flagged, Glyphs.flaggedUnless, Ranges.infos}
 use Rattle.records.proofs.Renaming.{append-map, flip-map}
@@ -8,7 +8,7 @@ use Rattle.lists.proofs.OriginLaws as lists
 use Rattle.lists.proofs.OriginLaws.{Within, Drawn, Leaves, within-append, within-reverse, none, within-copies, first-within}
 use Rattle.edits.specs.Writing.{written, model, writing, copyGlyph, outputGlyph, outputInfo, replaceGlyphs}
 use Rattle.edits.specs.Merging.{merged, merge, mergedOut, mergeOut, mergeInput, mergeDone}
-use Rattle.edits.specs.Deleting.{current, inherited, mergedForward, deleted, deleteGlyph, kept, deletedEach, keptRun, deleteGlyphsInplace}
+use Rattle.edits.specs.Deleting.{inherited, mergedForward, deleted, deleteGlyph, kept, deletedEach, keptRun, deleteGlyphsInplace}
 use Rattle.edits.specs.Flags.{interior, flagInterior, flagOutInterior, flagAll, flagOutAll, plainForm, outbufferForm}
 
 -- ---- other words of a glyph, with its origin
@@ -40,9 +40,6 @@ module _ (i : Info) where
 pub ruleset drawing = (lists.drawing, same-mask, same-cluster, same-merged, same-flagged, same-unless)
 
 module _ {G : Type 0} {n : ℕ} where
-  pub rest-within : {a : Account G} → Drawn n a → Within n (a .rest)
-  rest-within d = d .rest
-
   -- ---- flags
   pub interior-within : (level m bits i j : ℕ) {l : List (Glyph G)} → Within n l → Within n (interior level m bits i j l)
   unfolding interior

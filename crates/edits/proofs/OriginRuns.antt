@@ -4,12 +4,12 @@ use Prim.Native.Nat.{ℕ, zero, suc, _+_, _≤_, min, zero-le}
 use native.Mathlib.Omega.{arith}
 use lib.{Dec.eqb, ListN.length-append}
 use borrow.Author.Tests.{eqb-false}
-use Rattle.records.specs.{InputPlace, Refusal, Limits, Counters.nextPush, Counters.counted, Counters.grown, Counters.failed, Glyphs.Glyph, Glyphs.Info, Glyphs.change, Glyphs.withMask, Glyphs.withCluster, Glyphs.withPosition, Glyphs.withOrigin, Glyphs.blank, Ranges.copies}
+use Rattle.records.specs.{InputPlace, Refusal, Limits, Counters.nextPush, Counters.counted, Counters.grown, Glyphs.Glyph, Glyphs.Info, Glyphs.change, Glyphs.withMask, Glyphs.withCluster, Glyphs.withPosition, Glyphs.withOrigin, Glyphs.blank, Ranges.copies, Ranges.infos, Ranges.is}
 use Rattle.lists.specs.{Account.Account, Account.len, Account.withLimits, Account.limiting, Account.sized, Account.failing, Account.withRest, Account.Result, Account.refused, Account.accepted, Account.refuse_when_else_, Account.needing}
-use Rattle.lists.proofs.OriginLaws.{Within, none, more, Drawn, Leaves, within-larger, within-append, within-copies, drawn-failing, drawn-rest, drawn-cond, accepts, leaves-refuse}
+use Rattle.lists.proofs.OriginLaws.{Within, none, more, Drawn, Leaves, within-larger, within-append, within-copies, drawn-failing, drawn-rest, drawn-cond}
 use Rattle.edits.specs.WholeRun.{push, setLength, place, setPosition, setMasks, masked, reverseRun, reverseRange, numbered, resetClusters, rotated, inserted, sorted, sort}
-use Rattle.edits.specs.Groups.{regrouped, mergedEach, propagated, reverseClusters, reverseGraphemes, formClusters, propagateFlags}
-use Rattle.edits.proofs.OriginCalls.{drawing, same-cond, rest-within, drawn-merge}
+use Rattle.edits.specs.Groups.{groupSizes, continues, regrouped, mergedEach, propagated, reverseClusters, reverseGraphemes, formClusters, propagateFlags}
+use Rattle.edits.proofs.OriginCalls.{drawing, same-cond, drawn-merge}
 
 module _ (i : Info) where
   same-position : (xa ya xo yo : ℕ) → (setPosition xa ya xo yo i) .origin ≡ i .origin
@@ -49,6 +49,9 @@ module _ {G : Type 0} {n : ℕ} where
 
   drawn-regrouped : (ns : List ℕ) {a : Account G} → Drawn n a → Drawn n (withRest (regrouped ns (a .rest)) a)
   drawn-regrouped ns d = drawn-rest d (regrouped-within ns (d .rest))
+
+  rest-within : {a : Account G} → Drawn n a → Within n (a .rest)
+  rest-within d = d .rest
 
   drawn-inserted : (j i : ℕ) {a : Account G} → Drawn n a → Drawn n (inserted j i a)
   unfolding inserted
@@ -100,7 +103,9 @@ module _ {G : Type 0} {n : ℕ} where
     module _ (slot mask : ℕ) where
       pub graphemes-leaves : Leaves n (reverseGraphemes slot mask a)
       unfolding reverseGraphemes
-      graphemes-leaves = leaves-refuse _ _ (leaves-refuse _ _ (accepts (drawn-regrouped _ (drawn-cond _ (drawn-merged-each _ _ _ d) d))))
+      graphemes-leaves =
+          let e = drawn-cond (is 1 (a .state .level)) (drawn-merged-each true (groupSizes (continues slot mask) (infos (a .rest))) 0 d) d in
+          search (drawing, drawn-regrouped)
 
       pub form-leaves : Leaves n (formClusters slot mask a)
       unfolding formClusters
