@@ -5,6 +5,7 @@ use native.Mathlib.Omega.{arith}
 use borrow.Author.Tests.{eq-eqb, ne-eqb}
 use Rattle.records.specs.{InputPlace, DonePlace, View.seen, declared.GlyphInfo.GlyphInfo}
 use Rattle.records.proofs.View.{seen-number, seen-info}
+use Rattle.edits.proofs.Writings.{info-origin}
 use Rattle.lists.specs.{declared.Buffer.Buffer, declared.Reply.Reply}
 use Rattle.lists.specs.Contract.{Meets}
 use Rattle.edits.specs.{declared.InputBound.InputBound, declared.InputBound.the-variants.Open as InputOpen, declared.InputBound.the-variants.At as InputAt}
@@ -39,7 +40,7 @@ module _ {b : Buffer} {f s f′ s′ : List ℕ} {r : Reply} where
   pub info-call : (g : GlyphInfo) → Meets (λ capacity a. outputInfo capacity (seen g .glyph) (seen g .info) a) b f s r f′ s′
       → Meets (λ capacity a. perform 0 capacity (c0C-output-info (g .mask) (g .cluster) (g .var0) (g .var1)) (g .glyph ∷ []) a) b f s r f′ s′
   unfolding perform
-  info-call g m = rw (seen-number g, seen-info g) at m
+  info-call g m = rw (info-origin (g .glyph) (g .mask) (g .cluster) (g .var0) (g .var1) (g .origin)) at (rw (seen-number g, seen-info g) at m)
 
   module _ {x y : Option InputPlace} (start end : InputBound) (ex : inputBound start ≡ x) (ey : inputBound end ≡ y) where
     pub break-call : Meets (λ capacity a. plainForm true true 3 (inputBound start) (inputBound end) a) b f s r f′ s′

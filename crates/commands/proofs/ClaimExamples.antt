@@ -2,6 +2,7 @@
 use mathlib.Core.{Path._≡_, Path.refl, Bool.cond}
 use Prim.Native.Nat.{ℕ}
 use lib.Dec.{eqb}
+use Rattle.records.specs.Counters.{wordsFor}
 use Rattle.lists.specs.{Account.freshAccount, declared.Buffer.Buffer}
 use Rattle.commands.specs.Calls.{runBytes}
 use Rattle.commands.specs.Claims.{renamedBytes, Renamed, Claims}
@@ -21,5 +22,5 @@ unfolding other-number
 keeps-zero = refl
 
 -- so the one wording's run is the other's, but for that number
-says-of-41 : {b : Buffer} → Claims 0 0 b → let a = freshAccount 0 0 in Renamed other-number a (runBytes 10240 10240 wording-41 a) a (runBytes 10240 10240 wording-42 a)
-says-of-41 c = rw other-wording at (c .demand-3 other-number keeps-zero .bytes 10240 10240 wording-41)
+says-of-41 : {b : Buffer} → Claims 0 0 b → let a = freshAccount 0 0 in Renamed other-number a (runBytes (wordsFor 2048) (wordsFor 2048) wording-41 a) a (runBytes (wordsFor 2048) (wordsFor 2048) wording-42 a)
+says-of-41 c = rw other-wording at (c .demand-3 other-number keeps-zero .bytes (wordsFor 2048) (wordsFor 2048) wording-41)

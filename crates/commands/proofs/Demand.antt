@@ -19,6 +19,7 @@ module _ {G H : Type 0} (f : G → H) where
     masks = words-rename f (λ i. i .mask) l;
     var0s = words-rename f (λ i. i .var0) l;
     var1s = words-rename f (λ i. i .var1) l;
+    origins = words-rename f (λ i. i .origin) l;
   }
 
   pub same-account : (a : Account G) → SameAccount f a (renamed f a)
@@ -32,6 +33,7 @@ module _ {G H : Type 0} (f : G → H) where
     max-ops = same (λ s. s .limits .«max_ops»);
     successful = same (λ s. s .limits .successful);
     serial = same (λ s. s .limits .serial);
+    pushes = same (λ s. s .limits .pushes);
     level = same (λ s. s .level);
     wants = same (λ s. s .wants);
     done = rw (done-rename f a) (same-list (a .done));

@@ -26,7 +26,7 @@ from-space (c ∷ w) l p = rw (ne-eqb c 32 (λ e. omega (arith, p .0, e))) (from
 
 -- a decimal has no space, so that of the line of a glyph nothing of its number is left
 without-number : (kind : ℕ) → isGlyphKind kind ≡ true → (g : Glyph ℕ)
-    → withoutGlyph (glyphLine kind g) ≡ kind ∷ ending (map decimal (g .info .cluster ∷ g .info .mask ∷ g .info .var0 ∷ g .info .var1 ∷ []))
+    → withoutGlyph (glyphLine kind g) ≡ kind ∷ ending (map decimal (g .info .cluster ∷ g .info .mask ∷ g .info .var0 ∷ g .info .var1 ∷ g .info .origin ∷ []))
 unfolding withoutGlyph glyphLine ending
 without-number kind h g = rw h (ap (λ (l : List ℕ). kind ∷ l) (from-space (decimal (g .glyph)) _ (plain-decimal (g .glyph))))
 

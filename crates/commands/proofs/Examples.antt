@@ -1,7 +1,7 @@
 -- Document 01's traps, and points where it can be misread, as one table beside that of its starred examples (specs/Table). A case is a script for a fresh buffer, and what it prints.
 use mathlib.Core.{Path._≡_, Path.refl, Bool.cond, Option.none, Option.some, List.List, List.[], List._∷_, List._++_, List.map}
 use Prim.Native.Nat.{ℕ, zero, suc}
-use Rattle.records.specs.{Position, Answers.Said, Answers.ok, Answers.okWith, Answers.no, Glyphs.Glyph}
+use Rattle.records.specs.{Position, Answers.Said, Answers.ok, Answers.okWith, Answers.no, Counters.wordsFor, Glyphs.Glyph}
 use Rattle.lists.specs.{Account.Account, Account.len, Account.idx, Account.outLen, Account.positions, Account.freshAccount, Account.Outcome}
 use Rattle.commands.specs.Calls.{Call, Worded, run, c00-fresh, c01-push, c02-set-length, c03-clear-output, c04-sync, c05-clear-positions, c06-place, c07-next-glyph, c08-next-glyphs, c09-skip-glyph, c0A-copy-glyph, c0B-output-glyph, c0C-output-info, c0D-replace-glyph, c0E-replace-glyphs, c0F-delete-glyph, c10-move-to, c11-merge-clusters, c12-merge-out-clusters, c13-merge-grapheme-clusters, c14-merge-out-grapheme-clusters, c15-unsafe-to-break, c16-unsafe-to-concat, c17-safe-to-insert-tatweel, c18-unsafe-to-break-from-outbuffer, c19-unsafe-to-concat-from-outbuffer, c1A-set-masks, c1B-reverse, c1C-reverse-range, c1D-reverse-clusters, c1E-reverse-graphemes, c1F-reset-clusters, c20-sort, c21-delete-glyphs-inplace, c22-form-clusters, c23-propagate-flags, c24-enter, c25-leave, c26-allocate-lig-id}
 use Rattle.commands.specs.Calls.{runBytes, inputPlace, donePlace}
@@ -76,13 +76,13 @@ AllRight (c ∷ cs) = Right c × AllRight cs
 -- ---- short forms for the rows
 -- the exam program's buffer, of 2,048 glyphs
 on : ℕ → ℕ → List (Worded ℕ) → List (Worded ℕ) → Page → Case
-on level wants setUp cs prints = record { first = 10240; second = 10240; level = level; wants = wants; setUp = setUp; script = calls cs; prints = prints }
+on level wants setUp cs prints = record { first = wordsFor 2048; second = wordsFor 2048; level = level; wants = wants; setUp = setUp; script = calls cs; prints = prints }
 
 lent : ℕ → ℕ → List (Worded ℕ) → List (Worded ℕ) → Page → Case
 lent first second setUp cs prints = record { first = first; second = second; level = 0; wants = 0; setUp = setUp; script = calls cs; prints = prints }
 
 read : List ℕ → Page → Case
-read bs prints = record { first = 10240; second = 10240; level = 0; wants = 0; setUp = []; script = bytes bs; prints = prints }
+read bs prints = record { first = wordsFor 2048; second = wordsFor 2048; level = 0; wants = 0; setUp = []; script = bytes bs; prints = prints }
 
 -- o, p and i lines
 shows : List Said → List ℕ → List (List ℕ) → List (List ℕ) → List (List ℕ) → Page
@@ -154,29 +154,29 @@ table =
     -- trap: cluster 4,294,967,295 in a `set_masks` range that starts above 0
     ∷ on 0 0 (pushes 1 (5 ∷ 4294967295 ∷ [])) (call (c1A-set-masks 1 1 1 4294967295) ∷ []) (shows (ok ∷ []) (end 2 0 0 536870909 1) [] [] (g 1 5 1 ∷ g 2 4294967295 0 ∷ []))
     -- refusal 1: unequal, not whole glyphs, too long; it comes before the call's own
-    ∷ lent 10 15 [] (push 1 0 ∷ call (c00-fresh 0 9) ∷ []) (shows (no 1 ∷ no 1 ∷ []) (end 0 0 0 536870911 1) [] [] [])
-    ∷ lent 12 12 [] (call c04-sync ∷ []) (shows (no 1 ∷ []) (end 0 0 0 536870911 1) [] [] [])
-    ∷ lent 5242885 5242885 [] (call c03-clear-output ∷ []) (shows (no 1 ∷ []) (end 0 0 0 536870911 1) [] [] [])
+    ∷ lent 12 18 [] (push 1 0 ∷ call (c00-fresh 0 9) ∷ []) (shows (no 1 ∷ no 1 ∷ []) (end 0 0 0 536870911 1) [] [] [])
+    ∷ lent 10 10 [] (call c04-sync ∷ []) (shows (no 1 ∷ []) (end 0 0 0 536870911 1) [] [] [])
+    ∷ lent (wordsFor 1048577) (wordsFor 1048577) [] (call c03-clear-output ∷ []) (shows (no 1 ∷ []) (end 0 0 0 536870911 1) [] [] [])
     -- `clear_output` takes back what was passed; its idx 0 is no condition
     ∷ on 0 0 (pushes 1 (0 ∷ 1 ∷ [])) (call c09-skip-glyph ∷ call c03-clear-output ∷ []) (shows (ok ∷ ok ∷ []) (end 2 0 0 536870911 1) [] [] (g 1 0 0 ∷ g 2 1 0 ∷ []))
     -- giving up: over max_len 0 is answered, within it and over capacity is refusal 5; then `move_to` without output is true, with output 3 comes before false
     ∷ on 0 0 [] (call (c02-set-length 1073741823) ∷ call (c02-set-length 1073741824) ∷ call (c10-move-to 0) ∷ call (c10-move-to 1) ∷ call c03-clear-output ∷ call (c10-move-to 1) ∷ call (c10-move-to 0) ∷ []) (shows (no 5 ∷ okWith 0 ∷ okWith 1 ∷ no 3 ∷ ok ∷ no 3 ∷ okWith 0 ∷ []) (end 0 0 0 536870911 0) [] [] [])
     -- a `sync` whose size gives up is true, and *rest* is lost
-    ∷ lent 327680 327680 (call c24-enter ∷ call (c02-set-length 65536) ∷ call c03-clear-output ∷ info 9 0 0 0 ∷ []) (call c04-sync ∷ []) (shows (okWith 1 ∷ []) (end 1 0 0 65536 0) [] [] (g 9 0 0 ∷ []))
+    ∷ lent (wordsFor 65536) (wordsFor 65536) (call c24-enter ∷ call (c02-set-length 65536) ∷ call c03-clear-output ∷ info 9 0 0 0 ∷ []) (call c04-sync ∷ []) (shows (okWith 1 ∷ []) (end 1 0 0 65536 0) [] [] (g 9 0 0 ∷ []))
     -- a failed `sync` keeps len and spoils: then 2, but for 00, which may be 4
     ∷ on 0 0 (pushes 1 (0 ∷ 1 ∷ [])) (call (c02-set-length 1073741824) ∷ call c03-clear-output ∷ call c07-next-glyph ∷ call c04-sync ∷ call c26-allocate-lig-id ∷ call (c16-unsafe-to-concat none none) ∷ call (c00-fresh 0 8) ∷ []) (shows (okWith 0 ∷ ok ∷ ok ∷ okWith 0 ∷ no 2 ∷ no 2 ∷ no 4 ∷ []) (end 2 0 0 536870911 0) [] [] [])
     -- a back move past the cursor grows len and idx first
     ∷ on 0 0 (pushes 1 (0 ∷ 1 ∷ [])) (call c03-clear-output ∷ call c07-next-glyph ∷ info 3 0 5 0 ∷ info 4 0 6 0 ∷ call (c10-move-to 1) ∷ []) (shows (ok ∷ ok ∷ ok ∷ ok ∷ okWith 1 ∷ []) (end 3 0 1 536870908 1) (g 1 0 0 ∷ []) [] (g 3 5 0 ∷ g 4 6 0 ∷ g 2 1 0 ∷ []))
     -- its growth stays where the second cost fails; `max_ops` is below 0 then, and merges and masks still work
-    ∷ lent 327680 327680 (call c24-enter ∷ call (c02-set-length 65534) ∷ call (c1A-set-masks 0 1 0 1) ∷ call (c02-set-length 2) ∷ call c03-clear-output ∷ call c07-next-glyph ∷ info 3 0 5 0 ∷ info 4 0 6 0 ∷ []) (call (c10-move-to 1) ∷ call (c12-merge-out-clusters (donePlace 1) (donePlace 3)) ∷ call (c10-move-to 2) ∷ []) (shows (okWith 0 ∷ ok ∷ okWith 0 ∷ []) (end 3 2 3 4294967293 0) (g 0 0 0 ∷ g 3 5 0 ∷ g 4 5 0 ∷ []) [] (g 0 0 0 ∷ []))
+    ∷ lent (wordsFor 65536) (wordsFor 65536) (call c24-enter ∷ call (c02-set-length 65534) ∷ call (c1A-set-masks 0 1 0 1) ∷ call (c02-set-length 2) ∷ call c03-clear-output ∷ call c07-next-glyph ∷ info 3 0 5 0 ∷ info 4 0 6 0 ∷ []) (call (c10-move-to 1) ∷ call (c12-merge-out-clusters (donePlace 1) (donePlace 3)) ∷ call (c10-move-to 2) ∷ []) (shows (okWith 0 ∷ ok ∷ okWith 0 ∷ []) (end 3 2 3 4294967293 0) (g 0 0 0 ∷ g 3 5 0 ∷ g 4 5 0 ∷ []) [] (g 0 0 0 ∷ []))
     -- 0B with both lists empty makes its size; 0E with *rest* empty is 3
     ∷ lent 0 0 [] (call c03-clear-output ∷ record { call = c0B-output-glyph; glyphs = 7 ∷ [] } ∷ replaceGlyphs 0 0 [] ∷ []) (shows (ok ∷ no 5 ∷ no 3 ∷ []) (end 0 0 0 536870911 1) [] [] [])
     -- 0E: 3 before 4 before 5; more numbers than stated are left
-    ∷ lent 5 5 (pushes 1 (7 ∷ [])) (call c03-clear-output ∷ replaceGlyphs 2 9 [] ∷ replaceGlyphs 1 2 (8 ∷ []) ∷ replaceGlyphs 1 2 (8 ∷ 9 ∷ []) ∷ replaceGlyphs 1 1 (8 ∷ 9 ∷ []) ∷ []) (shows (ok ∷ no 3 ∷ no 4 ∷ no 5 ∷ ok ∷ []) (end 1 1 1 536870911 1) (g 8 7 0 ∷ []) [] [])
+    ∷ lent (wordsFor 1) (wordsFor 1) (pushes 1 (7 ∷ [])) (call c03-clear-output ∷ replaceGlyphs 2 9 [] ∷ replaceGlyphs 1 2 (8 ∷ []) ∷ replaceGlyphs 1 2 (8 ∷ 9 ∷ []) ∷ replaceGlyphs 1 1 (8 ∷ 9 ∷ []) ∷ []) (shows (ok ∷ no 3 ∷ no 4 ∷ no 5 ∷ ok ∷ []) (end 1 1 1 536870911 1) (g 8 7 0 ∷ []) [] [])
     -- positions: `place` writes four words; a push is then refusal 2, and `clear_positions` is not
     ∷ on 0 0 (pushes 1 (0 ∷ 1 ∷ [])) (call (c06-place (inputPlace 0) 1 2 3 4) ∷ call c05-clear-positions ∷ call (c06-place (inputPlace 2) 1 2 3 4) ∷ call (c06-place (inputPlace 0) 1 2 3 4294967295) ∷ call c1B-reverse ∷ push 3 2 ∷ []) (places (no 2 ∷ ok ∷ no 3 ∷ ok ∷ ok ∷ no 2 ∷ []) (end 2 0 0 536870911 1) (g 2 1 0 ∷ g 1 0 0 ∷ []) ((0 ∷ 0 ∷ 0 ∷ 0 ∷ 0 ∷ []) ∷ (1 ∷ 2 ∷ 3 ∷ 4294967295 ∷ 0 ∷ []) ∷ []))
     -- the whole run is not to be had behind the cursor; `clear_positions` is, and all are 0 again
-    ∷ record { first = 10240; second = 10240; level = 0; wants = 0; setUp = pushes 1 (0 ∷ 1 ∷ []); script = calls (call c05-clear-positions ∷ call (c06-place (inputPlace 1) 5 6 7 8) ∷ call c07-next-glyph ∷ call c1B-reverse ∷ call c05-clear-positions ∷ []); prints = record { answers = ok ∷ ok ∷ ok ∷ no 2 ∷ ok ∷ []; end = end 2 1 0 536870911 1; serial = 0; o = []; p = g 1 0 0 ∷ []; i = g 2 1 0 ∷ []; x = (0 ∷ 0 ∷ 0 ∷ 0 ∷ 0 ∷ []) ∷ (0 ∷ 0 ∷ 0 ∷ 0 ∷ 0 ∷ []) ∷ [] } }
+    ∷ record { first = wordsFor 2048; second = wordsFor 2048; level = 0; wants = 0; setUp = pushes 1 (0 ∷ 1 ∷ []); script = calls (call c05-clear-positions ∷ call (c06-place (inputPlace 1) 5 6 7 8) ∷ call c07-next-glyph ∷ call c1B-reverse ∷ call c05-clear-positions ∷ []); prints = record { answers = ok ∷ ok ∷ ok ∷ no 2 ∷ ok ∷ []; end = end 2 1 0 536870911 1; serial = 0; o = []; p = g 1 0 0 ∷ []; i = g 2 1 0 ∷ []; x = (0 ∷ 0 ∷ 0 ∷ 0 ∷ 0 ∷ []) ∷ (0 ∷ 0 ∷ 0 ∷ 0 ∷ 0 ∷ []) ∷ [] } }
     -- without output a merge may start below the cursor; then s does not fall
     ∷ on 0 0 (pushes 1 (4 ∷ 4 ∷ 3 ∷ 9 ∷ [])) (call (c08-next-glyphs 2) ∷ call (c11-merge-clusters (inputPlace 1) (inputPlace 3)) ∷ []) (shows (ok ∷ ok ∷ []) (end 4 2 0 536870909 1) [] (g 1 4 0 ∷ g 2 3 0 ∷ []) (g 3 3 0 ∷ g 4 9 0 ∷ []))
     -- a level above 3 reads as 0; s falls over the equals of the first

@@ -3,7 +3,7 @@ use mathlib.Core.{Path._≡_, Path.refl, Path.sym, Path.ap, Path._∙_, List.Lis
 use Prim.Native.Nat.{ℕ}
 use native.Mathlib.Omega.{arith}
 use lib.ListN.{getD}
-use Rattle.records.specs.{Unreadable, Answers.no, Answers.refusalNumber}
+use Rattle.records.specs.{Unreadable, Counters.wordsFor, Answers.no, Answers.refusalNumber}
 use Rattle.lists.specs.{Account.freshAccount}
 use Rattle.commands.specs.Calls.{runBytes}
 use Rattle.commands.specs.Claims.{renamedBytes}
@@ -28,20 +28,20 @@ unfolding wording-41 wording-42 word executable
 numbers-only = refl
 
 -- exam tells them apart, by the last digit of the number, which is byte 31 of what it prints
-pub exam-differs : examText 10240 wording-41 ≡ examText 10240 wording-42 → ⊥
+pub exam-differs : examText 2048 wording-41 ≡ examText 2048 wording-42 → ⊥
 unfolding wording-41 wording-42 word flatMap executable
 exam-differs e = let digit : _≡_ {A = ℕ} 49 50 = ap (λ (l : List ℕ). getD l 31 0) e in omega (arith, digit)
 
 -- desk does not, and prints this of the one and of the other
 desk-prints : List ℕ
-desk-prints = bytesOf "01 ok\nend 1 0 0 536870911 1\ni 0 0 0 0\nsum 1 1 0\n"
+desk-prints = bytesOf "01 ok\nend 1 0 0 536870911 1\ni 0 0 0 0 1\nsum 1 1 0\n"
 
-desk-41 : deskText 10240 wording-41 ≡ desk-prints
+desk-41 : deskText 2048 wording-41 ≡ desk-prints
 unfolding wording-41 word desk-prints bytesOf flatMap executable
 desk-41 = refl
 
-desk-42 : deskText 10240 wording-42 ≡ desk-prints
-desk-42 = sym (desk-alike 10240 wording-41 wording-42 numbers-only) ∙ desk-41
+desk-42 : deskText 2048 wording-42 ≡ desk-prints
+desk-42 = sym (desk-alike 2048 wording-41 wording-42 numbers-only) ∙ desk-41
 
 -- ---- the line `sum`
 -- wants, a list of commands, and the three numbers of its line `sum`
@@ -51,7 +51,7 @@ record Case : Type 0 where
   says : Totals
 
 Right : Case → Type 0
-Right c = let start = freshAccount 0 (c .wants) in lastLine (leftBy (runBytes 10240 10240 (c .commands) start) start) ≡ sumLine (c .says)
+Right c = let start = freshAccount 0 (c .wants) in lastLine (leftBy (runBytes (wordsFor 2048) (wordsFor 2048) (c .commands) start) start) ≡ sumLine (c .says)
 
 abbrev AllRight : List Case → Type 0
 AllRight [] = Unit {0}
@@ -94,7 +94,7 @@ no-6 : answerLine 255 (no (refusalNumber Unreadable)) ≡ bytesOf "FF no 6\n"
 unfolding bytesOf executable
 no-6 = refl
 
-signs : positionLine (record { «x_advance» = 1; «y_advance» = 4294967295; «x_offset» = 2147483647; «y_offset» = 2147483648; var = 4294967295 }) ≡
+signs : positionLine (record { «x_advance» = 1; «y_advance» = 4294967295; «x_offset» = 2147483647; «y_offset» = 2147483648; var = 4294967295; free = 7 }) ≡
     bytesOf "x 1 -1 2147483647 -2147483648 4294967295\n"
 unfolding bytesOf executable
 signs = refl

@@ -3,8 +3,8 @@ use mathlib.Core.{Path._≡_, Path.refl, Path.ap, Path.ap₂, Path.sym, Path._�
 use Prim.Native.Nat.{ℕ, _+_, _*_, _≤_}
 use native.Mathlib.Omega.{arith}
 use lib.{ListN.length, ListN.take, ListN.drop, ListN.take-append-drop, ListN.drop-of-length-le, Seq.sets, Seq.length-sets}
-use Rattle.records.specs.{Answers.ok, Counters.capacityOf, Counters.rightlyLent, View.glyphs}
-use Rattle.records.proofs.View.{length-glyphs}
+use Rattle.records.specs.{Answers.ok, Counters.wordsFor, View.glyphs}
+use Rattle.records.proofs.View.{length-glyphs, capacity-for, lent-for}
 use Rattle.lists.specs.{declared.Buffer.Buffer, declared.Reply.Reply}
 use Rattle.lists.specs.{Account.freshAccount, Account.Outcome, Contract.account, Contract.sound, Contract.outcomeOf, Contract.Begins}
 use Rattle.lists.proofs.Simple.{begun-fresh}
@@ -19,19 +19,18 @@ use Rattle.commands.proofs.ReportLaws.{lines-few}
 use Rattle.commands.proofs.TextLaws.{taken-text}
 
 -- ---- from the first buffer over slices of 2,048 glyphs, a string comes to the account's own run
-module _ {b : Reply} (v : Begins 0 0 b) (f s : List ℕ) (ef : 10240 ≡ length f) (es : 10240 ≡ length s) where
+module _ {b : Reply} (v : Begins 0 0 b) (f s : List ℕ) (ef : wordsFor 2048 ≡ length f) (es : wordsFor 2048 ≡ length s) where
   start-sound : sound (b .buffer) f s ≡ true
-  unfolding rightlyLent capacityOf
-  start-sound = v .is-sound f s ∙ rw (← ef, ← es)
+  start-sound = v .is-sound f s ∙ rw (← ef, ← es) (lent-for 2048 (omega arith))
 
   start-account : account (b .buffer) f s ≡ freshAccount 0 0
   start-account = begun-fresh (omega arith) v f s
 
-  starts : (t : List ℕ) → outcomes t (b .buffer) f s ≡ examRun 10240 t
+  starts : (t : List ℕ) → outcomes t (b .buffer) f s ≡ examRun 2048 t
   unfolding examRun
   starts t = outcomes-are t (b .buffer) f s start-sound ∙ rw (← ef, ← es, start-account)
 
-pub runs-fresh : {b : Reply} {t f s : List ℕ} {r : Ran} {f′ s′ : List ℕ} → Begins 0 0 b → Runs t (b .buffer) f s r f′ s′ → 10240 ≡ length f → 10240 ≡ length s → RunsFresh 10240 t r f′ s′
+pub runs-fresh : {b : Reply} {t f s : List ℕ} {r : Ran} {f′ s′ : List ℕ} → Begins 0 0 b → Runs t (b .buffer) f s r f′ s′ → wordsFor 2048 ≡ length f → wordsFor 2048 ≡ length s → RunsFresh 2048 t r f′ s′
 runs-fresh {b} {t} {f} {s} v w ef es = record {
   last = w .last ∙ rw (starts v f s ef es t, start-account v f s ef es);
   all = w .all ∙ ap (λ (l : List (Outcome ℕ)). length l) (starts v f s ef es t);
@@ -48,27 +47,26 @@ filled {text} {before} {after} {r} v h =
     let is : after ≡ sets before 0 text = v .room fits in
     record { is = rw (is, v .needs) (taken-text text before fits); inside = rw (is, length-sets) (omega arith) }
 
-module _ {t : List ℕ} {r : Ran} {f s : List ℕ} (v : RunsFresh 10240 t r f s) where
-  pub last-account : account (r .reply .buffer) f s ≡ lastAccount (examRun 10240 t)
+module _ {t : List ℕ} {r : Ran} {f s : List ℕ} (v : RunsFresh 2048 t r f s) where
+  pub last-account : account (r .reply .buffer) f s ≡ lastAccount (examRun 2048 t)
   unfolding lastAccount
   last-account = ap (λ (o : Outcome ℕ). o .after) (v .last)
 
-  lines-are : reported (r .reply .buffer) f s ≡ reportLines (lastAccount (examRun 10240 t))
+  lines-are : reported (r .reply .buffer) f s ≡ reportLines (lastAccount (examRun 2048 t))
   unfolding reported
   lines-are = rw (v .is-sound, ← last-account)
 
-  few-lines : 10240 ≡ length f → length (reported (r .reply .buffer) f s) ≤ 4098
-  unfolding capacityOf
+  few-lines : wordsFor 2048 ≡ length f → length (reported (r .reply .buffer) f s) ≤ 4098
   few-lines ef =
-      let many : length (glyphs f) ≡ 2048 = length-glyphs f ∙ rw (← ef) in
+      let many : length (glyphs f) ≡ 2048 = length-glyphs f ∙ rw (← ef) (capacity-for 2048) in
       omega (arith, lines-few (r .reply .buffer) f s (v .is-sound))
 
-  module _ (ef : 10240 ≡ length f) {before after : List ℕ} {k : ℕ} where
-    pub holds-report : textRoom ≡ length before → Fills (flatMap (λ l. l) (reported (r .reply .buffer) f s)) before k after × (k ≤ longest * length (reported (r .reply .buffer) f s)) → Holds (report (lastAccount (examRun 10240 t))) k after
+  module _ (ef : wordsFor 2048 ≡ length f) {before after : List ℕ} {k : ℕ} where
+    pub holds-report : textRoom ≡ length before → Fills (flatMap (λ l. l) (reported (r .reply .buffer) f s)) before k after × (k ≤ longest * length (reported (r .reply .buffer) f s)) → Holds (report (lastAccount (examRun 2048 t))) k after
     unfolding report
     holds-report room w = rw lines-are at (filled (w .0) (omega (arith, w .1, few-lines ef)))
 
-    pub holds-record : textRoom ≡ length before → Fills (flatMap withoutGlyph (reported (r .reply .buffer) f s)) before k after × (k ≤ longest * length (reported (r .reply .buffer) f s)) → Holds (layoutRecord (lastAccount (examRun 10240 t))) k after
+    pub holds-record : textRoom ≡ length before → Fills (flatMap withoutGlyph (reported (r .reply .buffer) f s)) before k after × (k ≤ longest * length (reported (r .reply .buffer) f s)) → Holds (layoutRecord (lastAccount (examRun 2048 t))) k after
     unfolding layoutRecord
     holds-record room w = rw lines-are at (filled (w .0) (omega (arith, w .1, few-lines ef)))
 
@@ -126,20 +124,20 @@ parts-account t (p ∷ ps) at b f s c =
     ∙ (last-after on (outcomeOf (p .played .reply) (p .first) (p .second)) rest refl ∙ ap (λ (o : Outcome ℕ). o .after) (sym whole))
 
 -- ---- a whole program: the bytes of the parts from the first buffer on, then those of the report or the record
-module _ {b : Reply} (v : Begins 0 0 b) (f s : List ℕ) (ef : 10240 ≡ length f) (es : 10240 ≡ length s) (t : List ℕ) (ps : List Part) (c : InParts t 0 (b .buffer) f s ps) where
-  pub parts-answers : flatMap textOf ps ≡ answers t (examRun 10240 t)
+module _ {b : Reply} (v : Begins 0 0 b) (f s : List ℕ) (ef : wordsFor 2048 ≡ length f) (es : wordsFor 2048 ≡ length s) (t : List ℕ) (ps : List Part) (c : InParts t 0 (b .buffer) f s ps) where
+  pub parts-answers : flatMap textOf ps ≡ answers t (examRun 2048 t)
   unfolding answers
   parts-answers = parts-text t ps 0 (b .buffer) f s c ∙ ap (λ (os : List (Outcome ℕ)). flatMap (λ l. l) (answerLines (commandBytes (length t) t) os)) (starts v f s ef es t)
 
-  pub parts-left : accountAfter (b .buffer) f s ps ≡ lastAccount (examRun 10240 t)
+  pub parts-left : accountAfter (b .buffer) f s ps ≡ lastAccount (examRun 2048 t)
   unfolding lastAccount
   parts-left = parts-account t ps 0 (b .buffer) f s c ∙ rw (starts v f s ef es t, start-account v f s ef es)
 
   module _ {k : ℕ} {out : List ℕ} where
-    pub exam-prints : Holds (report (lastAccount (examRun 10240 t))) k out → flatMap textOf ps ++ take k out ≡ examText 10240 t
+    pub exam-prints : Holds (report (lastAccount (examRun 2048 t))) k out → flatMap textOf ps ++ take k out ≡ examText 2048 t
     unfolding examText
     exam-prints w = ap₂ (λ (x y : List ℕ). x ++ y) parts-answers (w .is)
 
-    pub desk-prints : Holds (layoutRecord (lastAccount (examRun 10240 t))) k out → flatMap textOf ps ++ take k out ≡ deskText 10240 t
+    pub desk-prints : Holds (layoutRecord (lastAccount (examRun 2048 t))) k out → flatMap textOf ps ++ take k out ≡ deskText 2048 t
     unfolding deskText
     desk-prints w = ap₂ (λ (x y : List ℕ). x ++ y) parts-answers (w .is)

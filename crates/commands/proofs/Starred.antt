@@ -3,7 +3,7 @@ use mathlib.Core.{Path._≡_, Path.refl, Path.ap, Path._∙_, Bool.cond, Bool.fa
 use Prim.Native.Nat.{ℕ, _*_, max}
 use native.Mathlib.Nat.{zero-add, sub-zero}
 use lib.{Dec.leb, Dec.ltb, Seq.take-nil, ListN.length-replicate, ListN.length-map, ListN.replicate}
-use Rattle.records.specs.{Answers.okWith, Glyphs.blank, Ranges.copies}
+use Rattle.records.specs.{Answers.okWith, Counters.wordsFor, Glyphs.blank, Ranges.copies}
 use Rattle.lists.specs.Account.{Account, freshAccount, len, withRest, sized, Outcome}
 use Rattle.commands.specs.Calls.{step, c02-set-length, c24-enter}
 use Rattle.commands.specs.Table.{bytesOf, sheet, ran, entersWith, draw, Starred}
@@ -14,7 +14,7 @@ filled : ℕ → Account ℕ
 filled n = withRest (copies (blank 0) (replicate n 0)) (sized n (freshAccount 0 0))
 
 set-length : (n : ℕ) → leb n 0 ≡ false → ltb 1073741823 n ≡ false → ltb 1048576 n ≡ false
-    → step 0 5242880 5242880 (record { call = c02-set-length n; glyphs = [] }) (freshAccount 0 0) ≡ record { answer = okWith 1; after = filled n }
+    → step 0 (wordsFor 1048576) (wordsFor 1048576) (record { call = c02-set-length n; glyphs = [] }) (freshAccount 0 0) ≡ record { answer = okWith 1; after = filled n }
 unfolding filled executable
 set-length n some-glyphs within-max fits = simp (some-glyphs, within-max, fits, sub-zero, zero-add, take-nil)
 
@@ -26,7 +26,7 @@ entered-with : (n : ℕ) → leb n 0 ≡ false → ltb 1073741823 n ≡ false �
     → entersWith n ≡ cond (leb (4096 * n) 2147483647) (max (4096 * n) 65536) 536870911
 unfolding entersWith ran filled executable
 entered-with n some-glyphs within-max fits =
-    ap (λ (o : Outcome ℕ). (step 0 5242880 5242880 (record { call = c24-enter; glyphs = [] }) (o .after)) .after .state .limits .«max_ops») (set-length n some-glyphs within-max fits)
+    ap (λ (o : Outcome ℕ). (step 0 (wordsFor 1048576) (wordsFor 1048576) (record { call = c24-enter; glyphs = [] }) (o .after)) .after .state .limits .«max_ops») (set-length n some-glyphs within-max fits)
     ∙ ap (λ (k : ℕ). cond (leb (4096 * k) 2147483647) (max (4096 * k) 65536) 536870911) (filled-len n)
 
 -- ---- the table

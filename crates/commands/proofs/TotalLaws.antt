@@ -26,7 +26,7 @@ taken kind i = record { kind = kind; cluster = numberOf (decimal (i .cluster)); 
 -- a glyph line, whatever its kind
 read-glyph : (kind : ℕ) → isGlyphKind kind ≡ true → 32 < kind → (g : Glyph ℕ) → readLine (glyphLine kind g) ≡ taken kind (g .info)
 unfolding readLine glyphLine taken
-read-glyph kind h k g = rw (h, fields-line (kind ∷ []) (map decimal (g .glyph ∷ g .info .cluster ∷ g .info .mask ∷ g .info .var0 ∷ g .info .var1 ∷ [])) (k, tt) (plain-decimal _, (plain-decimal _, (plain-decimal _, (plain-decimal _, (plain-decimal _, tt)))))) refl
+read-glyph kind h k g = rw (h, fields-line (kind ∷ []) (map decimal (g .glyph ∷ g .info .cluster ∷ g .info .mask ∷ g .info .var0 ∷ g .info .var1 ∷ g .info .origin ∷ [])) (k, tt) (plain-decimal _, (plain-decimal _, (plain-decimal _, (plain-decimal _, (plain-decimal _, (plain-decimal _, tt))))))) refl
 
 read-position : (q : Position) → readLine (positionLine q) ≡ noEntry
 unfolding readLine positionLine isGlyphKind

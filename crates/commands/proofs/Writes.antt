@@ -6,7 +6,7 @@ use native.Mathlib.Omega.{arith}
 use lib.{ListN.length, ListN.set, ListN.length-append, Seq.sets, Dec.leb}
 use borrow.Author.Tests.{leb-true, leb-false, le-leb, lt-leb}
 use Rattle.records.specs.{Answers.said, Answers.no, Answers.refusalNumber, Counters.isNegative, View.seen, declared.Answer.Answer, declared.Answer.the-variants.No, declared.Refusal.Refusal, declared.GlyphInfo.GlyphInfo}
-use Rattle.records.proofs.View.{seen-number, seen-mask, seen-cluster, seen-var0, seen-var1}
+use Rattle.records.proofs.View.{seen-number, seen-mask, seen-cluster, seen-var0, seen-var1, seen-origin}
 use Rattle.lists.specs.{Account.spoiledPhase, declared.Buffer.Buffer}
 use Rattle.commands.specs.{Lines.decimal, Lines.digits, Lines.digitOf, Lines.signed, Lines.hex, Lines.hexDigit, Lines.ending, Lines.answerLine, Lines.countersLine, inner.Writes.endLineOf, Lines.glyphLine, Texts.Wrote, Texts.Prints, Texts.longest}
 use Rattle.commands.proofs.Decimals.{one-digit, more-digits, more-length, word-short, count-short, negative-short}
@@ -115,9 +115,9 @@ module _ {l m : List ℕ} {at r : ℕ} where
   unfolding endLineOf
   counters-written b e w = rw (← e) w
 
-  pub glyph-written : (kind : ℕ) (g : GlyphInfo) → Wrote (kind ∷ ending (map decimal (g .glyph ∷ g .cluster ∷ g .mask ∷ g .var0 ∷ g .var1 ∷ []))) l at r m → Wrote (glyphLine kind (seen g)) l at r m
+  pub glyph-written : (kind : ℕ) (g : GlyphInfo) → Wrote (kind ∷ ending (map decimal (g .glyph ∷ g .cluster ∷ g .mask ∷ g .var0 ∷ g .var1 ∷ g .origin ∷ []))) l at r m → Wrote (glyphLine kind (seen g)) l at r m
   unfolding glyphLine
-  glyph-written kind g w = rw (seen-number g, seen-cluster g, seen-mask g, seen-var0 g, seen-var1 g) w
+  glyph-written kind g w = rw (seen-number g, seen-cluster g, seen-mask g, seen-var0 g, seen-var1 g, seen-origin g) w
 
 -- the test for room
 pub room-left : (at len : ℕ) → at ≤ len → leb longest (len - at) ≡ leb (at + longest) len

@@ -179,7 +179,7 @@ pub record Claims (level wants : ℕ) (b : Buffer) : Type 0 where
   pub two-wordings : TwoWordings
   pub two-wordings-returned : (i j i′ j′ : List ℕ) → SameLengths i j i′ j′ → TwoWordingsReturned b i j i′ j′
   -- the claim on the desk is not empty: two strings with the same edits whose exam reports differ
-  pub told-apart : record { one : List ℕ; other : List ℕ; same : SameEditBytes one other; differ : examText 10240 one ≡ examText 10240 other → ⊥ }
+  pub told-apart : record { one : List ℕ; other : List ℕ; same : SameEditBytes one other; differ : examText 2048 one ≡ examText 2048 other → ⊥ }
   -- document 01's starred examples, "proved together as one table"
   pub starred : Starred
   -- "Every entry is proved to be what document 01's formula gives." (document 02, N3)

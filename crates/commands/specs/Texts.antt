@@ -1,6 +1,6 @@
 -- What programs print, whole, as bytes: the answers, then the report of exam or the record of desk.
 use Rattle.records.specs.Library.{ℕ, zero, suc, _+_, _≤_, _<_, cond, eqb, List, [], _∷_, _++_, flatMap, length, take, drop, sets, _≡_}
-use Rattle.records.specs.Answers.{ok}
+use Rattle.records.specs.{Answers.ok, Counters.wordsFor}
 use Rattle.lists.specs.{Account.Account, Account.freshAccount, Account.Outcome, Contract.account, Contract.outcomeOf, Contract.LeavesAlone}
 use Rattle.lists.specs.{declared.Buffer.Buffer}
 use Rattle.commands.specs.{Calls.unreadable, Calls.got, Calls.formOf, Calls.readForm, Calls.runBytes, Runs.lastOf, Runs.allNo, Runs.largest}
@@ -34,9 +34,9 @@ answerLines (byte ∷ bytes) (o ∷ os) = answerLine byte (o .answer) ∷ answer
 unfoldable pub answers : List ℕ → List (Outcome ℕ) → List ℕ
 answers script os = flatMap (λ l. l) (answerLines (commandBytes (length script) script) os)
 
--- ---- the programs: "level and wants 0", over slices of n words
+-- ---- the programs: "level and wants 0", over slices for n glyphs
 unfoldable pub examRun : (n : ℕ) (script : List ℕ) → List (Outcome ℕ)
-examRun n script = runBytes n n script (freshAccount 0 0)
+examRun n script = runBytes (wordsFor n) (wordsFor n) script (freshAccount 0 0)
 unfoldable pub lastAccount : List (Outcome ℕ) → Account ℕ
 lastAccount os = (lastOf (record { answer = ok; after = freshAccount 0 0 }) os) .after
 unfoldable pub examText : (n : ℕ) (script : List ℕ) → List ℕ

@@ -6,7 +6,7 @@ use borrow.Author.Tests.{le-ltb, lt-ltb}
 use lib.{Dec.eqb, Dec.ltb, ListN.length, ListN.take, ListN.drop, ListN.getD, Seq.slice, Seq.slice-cons}
 use Rattle.records.specs.{Limits, Glyphs.Glyph, Glyphs.Info, Glyphs.blank, Glyphs.setCluster, Ranges.clusters, Ranges.edit, Ranges.tails, Ranges.infos, Ranges.is, Ranges.firstCluster, Ranges.lastCluster, View.glyphs, View.seen, inner.Stores.zeroGlyph}
 use Rattle.records.specs.declared.GlyphInfo.{GlyphInfo}
-use Rattle.records.proofs.{View.length-clusters, View.whole-same, View.cluster-of, View.seen-mask, View.seen-cluster, Renaming.append-map}
+use Rattle.records.proofs.{View.length-clusters, View.cluster-of, View.seen-mask, View.seen-cluster, Renaming.append-map}
 use Rattle.lists.proofs.Changed.{limits-limits, other-limits, other-places, held-placed}
 use Rattle.lists.proofs.Showing.{done-list}
 use Rattle.records.proofs.Edited.{edit-take, edit-drop-behind, clusters-take}
@@ -14,7 +14,8 @@ use Rattle.lists.specs.declared.Buffer.{Buffer}
 use Rattle.lists.specs.{Account.readLevel, Account.Account, Account.outLen, Account.withDone, Cursor.dropping, Contract.accountOf, Contract.goneOf, inner.Held.Held, inner.States.atPlaces, inner.States.withLimitsOf}
 use Rattle.lists.proofs.{Accounts.output-clean, Accounts.out-of, Accounts.rest-of, SoundLaws.held-lengths, Copying.range-same, Simple.dropping-of}
 use Rattle.edits.specs.{inner.Acts.Acts, inner.Acts.Mergeful, inner.Deletes.Deletable, inner.Deletes.nextHas, inner.Deletes.lastHas, inner.Deletes.inheriting, Deleting.current, Deleting.inherited, Deleting.survives, Deleting.deleted, Deleting.mergedForward, Merging.merge, Merging.clustersMerge}
-use Rattle.lists.proofs.Outputs.{output-cong, gone-output, output-account, beyond}
+use Rattle.records.proofs.View.{beyond-glyphs}
+use Rattle.lists.proofs.Outputs.{output-cong, gone-output, output-account}
 use Rattle.edits.proofs.Writings.{rest-first, done-last}
 use Rattle.edits.proofs.Replacements.{merge-places}
 
@@ -232,7 +233,7 @@ module _ {b : Buffer} {run other : List ℕ} (v : Deletable b run other) (some-o
           size = refl;
           side = refl;
           run-beyond = refl;
-          other-beyond = beyond a other other′ (whole-same run other (v .held .same) (v .held .whole)) lo kept;
+          other-beyond = beyond-glyphs a other′ other kept;
           held = v .held;
         }
 
@@ -247,7 +248,7 @@ module _ {b : Buffer} {run other : List ℕ} (v : Deletable b run other) (some-o
           is = inherits-is run′ other (rw s (er ∙ ap (λ (k : ℕ). edit k (b .«out_len» .0) becomes (glyphs run)) ea)) rest;
           size = refl;
           side = refl;
-          run-beyond = beyond a run run′ (v .held .whole) lr kept;
+          run-beyond = beyond-glyphs a run′ run kept;
           other-beyond = refl;
           held = v .held;
         }

@@ -5,7 +5,7 @@ use native.Mathlib.Numerals.{add-one}
 use native.Mathlib.Omega.{arith}
 use lib.{ListN.length, ListN.take, ListN.drop, ListN.set, Seq.take-suc-set, Seq.drop-set-lt}
 use Rattle.records.specs.{Limits, Contradiction, WrongPhase, OverCapacity, Answer, Done, No, Answers.said, Glyphs.Glyph, Glyphs.Info, Glyphs.change, Glyphs.withOrigin, Glyphs.blank, Counters.capacityOf, Counters.grown, Counters.nextPush, Counters.counted, Ranges.copies, View.glyphs, View.positionsIn, View.wordsFrom}
-use Rattle.records.proofs.View.{length-glyphs, glyphs-same, beyond-glyphs, beyond-positions, whole-same}
+use Rattle.records.proofs.View.{length-glyphs, glyphs-same, beyond-glyphs, beyond-positions}
 use Rattle.lists.specs.{declared.Buffer.Buffer, declared.Verdict.Verdict, declared.Room.Room, declared.Room.the-variants.Fits, declared.Room.the-variants.GivesUp, declared.Room.the-variants.Over}
 use Rattle.lists.specs.{Account.Account, Account.positionsPhase, Account.hasPositions, Account.len, Account.limiting, Account.sized, Account.failing, Account.withLimits, Account.withRest, Contract.isNo, Account.Result, Account.refused, Account.accepted, Account.needing, Contract.shown, Contract.stateOf, Contract.accountOf, Contract.sound, inner.Held.Soundness, inner.Held.Held, inner.Held.roomFor, inner.States.reply, inner.States.atPlaces, inner.States.withLimitsOf, inner.Verdicts.Leaves, inner.Verdicts.failedBuffer, inner.Verdicts.settled, inner.Verdicts.Decided}
 use Rattle.lists.proofs.Sides.{MeetsIn}
@@ -24,9 +24,9 @@ use Rattle.edits.proofs.WholeInputs.{wholeTest, not-not-whole, whole-go
 use Rattle.edits.proofs.WholeCalls.{OnWhole, whole-refuses, lying-whole, sound-whole}
 
 -- ---- a run of n glyphs, whose size is there
-pub longer-made : (b : Buffer) (n : ℕ) {l : Limits} {g r : Buffer} → g ≡ withLimitsOf l b → r ≡ atPlaces (b .idx .0) n (b .«out_len» .0) g → r ≡ longerBuffer n l b
+pub longer-made : (b : Buffer) (n : ℕ) (l : Limits) {g r : Buffer} → g ≡ withLimitsOf l b → r ≡ atPlaces (b .idx .0) n (b .«out_len» .0) g → r ≡ longerBuffer n l b
 unfolding longerBuffer
-longer-made b n eg er = er ∙ ap (atPlaces (b .idx .0) n (b .«out_len» .0)) eg
+longer-made b n l eg er = er ∙ ap (atPlaces (b .idx .0) n (b .«out_len» .0)) eg
 
 module _ {b : Buffer} {run other : List ℕ} (w : WholeInput b run other) where
   pub rest-is : (accountOf b run other) .rest ≡ take (b .len .0) (shown (b .phase) run other)
@@ -83,12 +83,12 @@ module _ {b : Buffer} {run other : List ℕ} (w : WholeInput b run other) where
       pub longer-beyond : drop n (glyphs run′) ≡ drop n (glyphs run) → wordsFrom ((longerBuffer n (more (b .limits)) b) .limits .allocated) run′ ≡ wordsFrom ((longerBuffer n (more (b .limits)) b) .limits .allocated) run
       longer-beyond d =
           let m : ℕ = (longerBuffer n (more (b .limits)) b) .limits .allocated in
-          sym (beyond-glyphs m run run′ (w .held .whole) (sym lr) (sym (behind-further n m (glyphs run) (glyphs run′) longer-size d)))
+          beyond-glyphs m run′ run (behind-further n m (glyphs run) (glyphs run′) longer-size d)
 
       pub other-beyond : drop n (positionsIn other′) ≡ drop n (positionsIn other) → wordsFrom ((longerBuffer n (more (b .limits)) b) .limits .allocated) other′ ≡ wordsFrom ((longerBuffer n (more (b .limits)) b) .limits .allocated) other
       other-beyond d =
           let m : ℕ = (longerBuffer n (more (b .limits)) b) .limits .allocated in
-          sym (beyond-positions m other other′ (whole-same run other (w .held .same) (w .held .whole)) (sym lo) (sym (behind-further n m (positionsIn other) (positionsIn other′) longer-size d)))
+          beyond-positions m other′ other (behind-further n m (positionsIn other) (positionsIn other′) longer-size d)
 
 -- ---- a verdict by the size
 module _ {capacity n : ℕ} {l : Limits} {there short : Answer} {b : Buffer} {v : Verdict} {room : Room} (e : room ≡ roomFor capacity n (b .limits)) where
@@ -180,38 +180,38 @@ module _ (g c : ℕ) where
           (push-is ∙ (room-fits w n h _ _ ∙ ap accepted (sym (longer-is w n more r run′ other lr refl _ push-rest))))
           refl
 
-  push-needing : {b : Buffer} → positionsPhase (b .phase) ≡ false → Needing (λ capacity a. push capacity g c a) b (b .len .0 + 1) (pushes-more (b .len .0 + 1) (b .limits)) Done Done (Puttable (b .len .0)) (Put (b .len .0) g c (nextPush (b .limits)))
-  push-needing {b} p = record {
+  push-needing : {b : Buffer} {o : ℕ} → positionsPhase (b .phase) ≡ false → o ≡ nextPush (b .limits) → Needing (λ capacity a. push capacity g c a) b (b .len .0 + 1) (pushes-more (b .len .0 + 1) (b .limits)) Done Done (Puttable (b .len .0)) (Put (b .len .0) g c o)
+  push-needing {b} p eo = record {
     then = _;
     sized = λ run other w. push-is w p;
-    done = λ run other run′ other′ w h lr lo act. rw (act .other-is) (push-done w p h run′ (act .run-is) lr);
+    done = λ run other run′ other′ w h lr lo act. rw (act .other-is) (push-done w p h run′ (act .run-is ∙ ap (λ (k : ℕ). set (glyphs run) (b .len .0) (record { glyph = g; info = withOrigin k (blank c) })) eo) lr);
     asked = λ f s w k. let same : length (glyphs f) ≡ length (glyphs s) = glyphs-same f s (w .held .same) in record { in-first = omega arith; in-second = omega arith };
     plain = refl;
   }
 
 module _ {b : Buffer} {f s : List ℕ} {v : Verdict} where
   pub push-unsound : sound b f s ≡ false → Leaves b false (No Contradiction) v → Pushes b f s v
-  push-unsound h w = record { is = λ g c. decided-unsound h w }
+  push-unsound h w = record { is = λ g c eo. decided-unsound h w }
 
   module _ {t : Bool} (h : sound b f s ≡ true) (et : t ≡ wholeTest b) where
     pub push-not-whole : t ≡ true → Leaves b false (No WrongPhase) v → Pushes b f s v
-    push-not-whole k w = record { is = λ g c. decided-refused h (whole-refuses (on-whole-push g c) et k) w }
+    push-not-whole k w = record { is = λ g c eo. decided-refused h (whole-refuses (on-whole-push g c) et k) w }
 
     module _ (k : t ≡ false) where
       pub push-positions : positionsPhase (b .phase) ≡ true → Leaves b false (No WrongPhase) v → Pushes b f s v
-      push-positions p w = record { is = λ g c. decided-refused h (record { law = λ run other l. push-placed g c _ _ (not-not-whole (lying-whole et k l)) (positions-of b run other ∙ p) }) w }
+      push-positions p w = record { is = λ g c eo. decided-refused h (record { law = λ run other l. push-placed g c _ _ (not-not-whole (lying-whole et k l)) (positions-of b run other ∙ p) }) w }
 
       pub push-ahead : {m : ℕ} {l : Limits} → positionsPhase (b .phase) ≡ false → m ≡ capacityOf (length f) → l ≡ pushes-more (b .len .0 + 1) (b .limits) → Lengthens m (b .len .0 + 1) l Done Done b v → Pushes b f s v
-      push-ahead p em el w = record { is = λ g c. decided-lengthens h et k (push-needing g c p) em (rw el at w) }
+      push-ahead p em el w = record { is = λ g c eo. decided-lengthens h et k (push-needing g c p eo) em (rw el at w) }
 
   pub push-asked : Pushes b f s v → v .acts ≡ true → Puttable (b .len .0) f s
-  push-asked w t = w .is 0 0 .asked t
+  push-asked w t = w .is 0 0 refl .asked t
 
 pub push-size : {b : Buffer} {f s : List ℕ} {t : Bool} → Soundness b f s t → t ≡ true → b .len .0 + 1 < 2 ^ 64
 push-size w h = omega (arith, sound-len w h)
 
-pub push-limits : {n : ℕ} {l m k : Limits} → m ≡ grown n l → k ≡ counted m → k ≡ pushes-more n l
-push-limits em ek = ek ∙ ap counted em
+pub push-limits : (n : ℕ) (l : Limits) {m k : Limits} → m ≡ grown n l → k ≡ counted m → k ≡ pushes-more n l
+push-limits n l em ek = ek ∙ ap counted em
 
 pub was-put : {run other run′ : List ℕ} {at number cluster origin : ℕ} {x y : Glyph ℕ} → x ≡ record { glyph = number; info = blank cluster } → y ≡ change (withOrigin origin) x → glyphs run′ ≡ set (glyphs run) at y → Put at number cluster origin run other run′ other
 unfolding change

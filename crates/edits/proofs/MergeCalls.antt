@@ -5,7 +5,7 @@ use native.Mathlib.Omega.{arith}
 use borrow.Author.Tests.{le-ltb, lt-ltb, ltb-false, eq-eqb, ne-eqb}
 use lib.{Dec.eqb, Dec.ltb, ListN.length, ListN.take, ListN.drop, Seq.slice}
 use Rattle.records.specs.{Phase, Plain, Output, Positions, Spoiled, InputPlace, Done, Limits, Glyphs.Glyph, Counters.capacityOf, Counters.costs, Ranges.clusters, View.glyphs, View.positionsIn, View.wordsFrom}
-use Rattle.records.proofs.View.{glyphs-same, whole-same, beyond-glyphs}
+use Rattle.records.proofs.View.{glyphs-same, beyond-glyphs}
 use Rattle.lists.proofs.Changed.{account-limits, limits-limits, own-limits, state-own, state-paid, paid-size}
 use Rattle.lists.proofs.Showing.{on-shown, gone-in}
 use Rattle.lists.specs.{declared.Buffer.Buffer, declared.Reply.Reply}
@@ -115,8 +115,8 @@ module _ {b : Buffer} {run other : List ℕ} (v : Held b run other) where
           is = e;
           size = paid-size b n;
           side = limits-side (costs n (b .limits)) b;
-          run-beyond = sym (beyond-glyphs a run run′ (v .whole) (sym lr) (sym (behind-further (b .len .0) a (glyphs run) (glyphs run′) (v .len-in) dr)));
-          other-beyond = sym (beyond-glyphs a other other′ (whole-same run other (v .same) (v .whole)) (sym lo) (sym (behind-further (b .«out_len» .0) a (glyphs other) (glyphs other′) (v .out-in) d)));
+          run-beyond = beyond-glyphs a run′ run (behind-further (b .len .0) a (glyphs run) (glyphs run′) (v .len-in) dr);
+          other-beyond = beyond-glyphs a other′ other (behind-further (b .«out_len» .0) a (glyphs other) (glyphs other′) (v .out-in) d);
           held = held-paid b run other v n;
         },
         simp limits-limits,
@@ -132,8 +132,8 @@ module _ {b : Buffer} {run other : List ℕ} (v : Held b run other) where
         is = e;
         size = refl;
         side = refl;
-        run-beyond = sym (beyond-glyphs a run run′ (v .whole) (sym lr) (sym (behind-further (b .len .0) a (glyphs run) (glyphs run′) (v .len-in) dr)));
-        other-beyond = sym (beyond-glyphs a other other′ (whole-same run other (v .same) (v .whole)) (sym lo) (sym (behind-further (b .«out_len» .0) a (glyphs other) (glyphs other′) (v .out-in) d)));
+        run-beyond = beyond-glyphs a run′ run (behind-further (b .len .0) a (glyphs run) (glyphs run′) (v .len-in) dr);
+        other-beyond = beyond-glyphs a other′ other (behind-further (b .«out_len» .0) a (glyphs other) (glyphs other′) (v .out-in) d);
         held = v;
       }
 

@@ -5,7 +5,7 @@ use native.Mathlib.Omega.{arith}
 use borrow.Author.Tests.{le-leb, lt-leb}
 use lib.{Dec.leb, ListN.length, ListN.take, ListN.drop, ListN.getD, ListN.set, Seq.drop-set-lt}
 use Rattle.records.specs.{Phase, Plain, Output, Positions, Spoiled, InputPlace, Position, Contradiction, WrongPhase, OutOfRange, Done, No, Glyphs.Glyph, Glyphs.Info, Glyphs.zeroPosition, Ranges.edit, View.glyphs, View.positionsIn, View.paired, View.wordsFrom}
-use Rattle.records.proofs.View.{glyphs-same, positions-glyphs, length-paired, beyond-positions, whole-same}
+use Rattle.records.proofs.View.{glyphs-same, positions-glyphs, length-paired, beyond-positions}
 use Rattle.lists.specs.{declared.Buffer.Buffer, declared.Verdict.Verdict}
 use Rattle.lists.specs.{Account.Account, Account.State, Account.outputPhase, Account.positionsPhase, Account.spoiledPhase, Account.hasPositions, Account.input, Account.len, Account.withInput, Account.refused, Account.accepted, Contract.goneOf, Contract.stateOf, Contract.accountOf, Contract.sound, inner.Held.Held, inner.States.reply, inner.Verdicts.Leaves}
 use Rattle.lists.proofs.Sides.{MeetsIn}
@@ -96,7 +96,7 @@ module _ (i : InputPlace) (xa ya xo yo : ℕ) where
         let pairs : paired gs (positionsIn other′) ≡ edit (i .0) (suc (i .0)) (setPosition xa ya xo yo) (paired gs ps) =
         ap (paired gs) e ∙ paired-placed xa ya xo yo (i .0) gs ps room (placed-room v h (i .0) k) in
         let behind : wordsFrom n other ≡ wordsFrom n other′ =
-        beyond-positions n other other′ (whole-same run other (v .same) (v .whole)) (sym lo) (sym (ap (drop n) e ∙ drop-set-lt n ps (i .0) _ (omega (arith, v .len-in)))) in
+        beyond-positions n other other′ (sym (ap (drop n) e ∙ drop-set-lt n ps (i .0) _ (omega (arith, v .len-in)))) in
         in-accepted b refl refl (sym behind) v
         (place-inside _ (positions-of b run other ∙ h) (ap (λ (m : ℕ). leb m (i .0)) (length-is v h) ∙ lt-leb (b .len .0) (i .0) k)
         ∙ ap accepted

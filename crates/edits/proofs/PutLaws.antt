@@ -7,12 +7,12 @@ use lib.ListN.{length, take, drop, getD, set}
 use lib.Seq.{slice, drop-drop, length-paste}
 use Rattle.records.specs.{Glyphs.Glyph, Ranges.copies, View.glyphs, View.seen, inner.Stores.zeroGlyph}
 use Rattle.records.specs.declared.GlyphInfo.{GlyphInfo}
-use Rattle.records.proofs.View.{glyphs-same, whole-same, seen-number}
+use Rattle.records.proofs.View.{glyphs-same, beyond-glyphs, seen-number}
 use Rattle.records.proofs.Edited.{copies-one}
 use Rattle.lists.proofs.Changed.{changed, output-apart, held-places, held-apart}
 use Rattle.lists.specs.declared.Buffer.{Buffer}
 use Rattle.lists.specs.{Account.Account, Account.outputPhase, Account.withGone, inner.Copied.copied, Cursor.dropping, Contract.accountOf, inner.Held.Held, inner.Verdicts.Sided}
-use Rattle.lists.proofs.{Copying.copied-none, Copying.copied-more, Copying.take-copied, Copying.drop-copied, Copying.range-same, Outputs.output, Outputs.output-cong, Outputs.output-places, Outputs.output-account, Outputs.beyond}
+use Rattle.lists.proofs.{Copying.copied-none, Copying.copied-more, Copying.take-copied, Copying.drop-copied, Copying.range-same, Outputs.output, Outputs.output-cong, Outputs.output-places, Outputs.output-account}
 use Rattle.edits.specs.{inner.Acts.Acts, inner.MergeActs.Merges, inner.Puts.overtakes, inner.Puts.Puttable, inner.Puts.Wrote, inner.Puts.Replaceable, inner.Puts.Replaces, inner.Puts.modelAt, inner.Puts.Modelled, inner.Puts.Outputs, Writing.written}
 use Rattle.edits.proofs.WriteForms.{Roomy, putBuffer}
 
@@ -195,8 +195,8 @@ module _ {b : Buffer} {m n : ℕ} {run other : List ℕ} (v : Roomy b m n run ot
           is = put-is;
           size = ap (λ (l : _). l .allocated) put-limits;
           side = put-side;
-          run-beyond = beyond a run run′ (v .held .whole) lr behind-run;
-          other-beyond = beyond a other other′ (whole-same run other (v .held .same) (v .held .whole)) lo behind-other;
+          run-beyond = beyond-glyphs a run′ run behind-run;
+          other-beyond = beyond-glyphs a other′ other behind-other;
           held = put-held;
         }
 

@@ -5,7 +5,7 @@ use native.Mathlib.Omega.{arith}
 use borrow.Author.Tests.{eq-eqb, ne-eqb}
 use lib.{ListN.length, ListN.take, ListN.drop, ListN.getD, ListN.set, Seq.slice, Seq.slice-cons, Seq.set-getD, Seq.drop-drop}
 use Rattle.records.specs.{Phase, Plain, Output, Positions, Position, Limits, Glyphs.Glyph, Glyphs.blank, Glyphs.key, Glyphs.zeroPosition, Ranges.infos, Ranges.is, View.glyphs, View.positionsIn, inner.Stores.zeroGlyph, View.wordsFrom}
-use Rattle.records.proofs.View.{glyphs-same, positions-glyphs, whole-same, beyond-glyphs, beyond-positions}
+use Rattle.records.proofs.View.{glyphs-same, positions-glyphs, beyond-glyphs, beyond-positions}
 use Rattle.records.proofs.Pairs.{key-alone}
 use Rattle.lists.specs.declared.Buffer.{Buffer}
 use Rattle.lists.specs.{Account.readLevel, Account.Account, Account.inPhase, Account.withGone, inner.Copied.copied, inner.Held.Held}
@@ -171,8 +171,8 @@ module _ (t : Bool) {level wants n i o : ℕ} {l : Limits} {b : Buffer} {run oth
   keep-onward = record {
     is = keep-is;
     size = refl;
-    run-beyond = sym (beyond-glyphs (l .allocated) run run′ (v .held .whole) (sym lr) (sym kept-run));
-    other-beyond = sym (beyond-positions (l .allocated) other other′ (whole-same run other (v .held .same) (v .held .whole)) (sym lo) (sym kept-other));
+    run-beyond = beyond-glyphs (l .allocated) run′ run kept-run;
+    other-beyond = beyond-positions (l .allocated) other′ other kept-other;
     held = keep-held;
   }
 

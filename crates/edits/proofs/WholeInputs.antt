@@ -5,7 +5,7 @@ use native.Mathlib.Omega.{arith}
 use borrow.Author.Tests.{ltb-false}
 use lib.{Dec.ltb, ListN.length, ListN.take, ListN.drop}
 use Rattle.records.specs.{Glyphs.Glyph, View.glyphs, View.positionsIn}
-use Rattle.records.proofs.View.{beyond-glyphs, beyond-positions, whole-same}
+use Rattle.records.proofs.View.{beyond-glyphs, beyond-positions}
 use Rattle.lists.specs.declared.Buffer.{Buffer}
 use Rattle.lists.specs.{Account.outputPhase, Account.spoiledPhase, Account.idx, Account.withRest, Contract.shown, Contract.goneOf, Contract.stateOf, Contract.accountOf, inner.Held.Held}
 use Rattle.lists.proofs.{Outputs.gone-without, Accounts.output-of, Accounts.spoiled-of, Accounts.idx-of, Accounts.rest-of, SoundLaws.held-lengths}
@@ -79,8 +79,8 @@ module _ {b : Buffer} {run other run′ other′ : List ℕ} (w : WholeInput b r
           is = whole-is run′ other′ w lr lo h e;
           size = refl;
           side = refl;
-          run-beyond = sym (beyond-glyphs n run run′ (w .held .whole) (sym lr) (sym (behind-further (b .len .0) n (glyphs run) (glyphs run′) (w .held .len-in) dr)));
-          other-beyond = sym (beyond-positions n other other′ (whole-same run other (w .held .same) (w .held .whole)) (sym lo) (sym (behind-further (b .len .0) n (positionsIn other) (positionsIn other′) (w .held .len-in) dp)));
+          run-beyond = beyond-glyphs n run′ run (behind-further (b .len .0) n (glyphs run) (glyphs run′) (w .held .len-in) dr);
+          other-beyond = beyond-positions n other′ other (behind-further (b .len .0) n (positionsIn other) (positionsIn other′) (w .held .len-in) dp);
           held = w .held;
         }
 

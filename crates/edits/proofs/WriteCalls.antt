@@ -4,11 +4,11 @@ use Prim.Native.Nat.{ℕ, _+_, _-_, _≤_, _<_, _^_}
 use native.Mathlib.Omega.{arith}
 use borrow.Author.Tests.{ltb-true, ltb-false}
 use lib.{Dec.ltb, ListN.length, ListN.take, ListN.getD}
-use Rattle.records.specs.{Contradiction, WrongPhase, OutOfRange, OverCapacity, Done, No, Limits, Counters.capacityOf, Counters.grown, Glyphs.Glyph, Glyphs.Info, Ranges.copies, View.glyphs, View.seen, inner.Stores.zeroGlyph, View.wordsFrom}
+use Rattle.records.specs.{Contradiction, WrongPhase, OutOfRange, OverCapacity, Done, No, Limits, Counters.capacityOf, Counters.grown, Glyphs.Glyph, Glyphs.Info, Glyphs.change, Glyphs.withOrigin, Ranges.copies, View.glyphs, View.seen, inner.Stores.zeroGlyph, View.wordsFrom}
 use Rattle.records.specs.declared.GlyphInfo.{GlyphInfo}
 use Rattle.records.proofs.View.{length-glyphs, glyphs-same}
 use Rattle.lists.specs.{declared.Buffer.Buffer, declared.Verdict.Verdict, declared.Room.Room, declared.Room.the-variants.Fits, declared.Room.the-variants.GivesUp, declared.Room.the-variants.Over}
-use Rattle.lists.specs.{Account.Account, Account.outputPhase, Account.outLen, Account.sized, Cursor.dropping, Account.Result, Contract.accountOf, Contract.sound, inner.Held.Soundness, inner.Held.Held, inner.Held.roomFor, inner.States.reply, inner.States.withLimitsOf, inner.Verdicts.leaving, inner.Verdicts.Leaves, inner.Verdicts.Sized, inner.Verdicts.bySize, inner.Verdicts.wroteBuffer, inner.Verdicts.failedBuffer, inner.Verdicts.settled, inner.Verdicts.Decided}
+use Rattle.lists.specs.{Account.Account, Account.outputPhase, Account.outLen, Account.sized, Cursor.dropping, Account.Result, Contract.accountOf, Contract.sound, inner.Held.Soundness, inner.Held.Held, inner.Held.roomFor, inner.States.reply, inner.States.withLimitsOf, inner.Verdicts.Sided, inner.Verdicts.leaving, inner.Verdicts.Leaves, inner.Verdicts.Sized, inner.Verdicts.bySize, inner.Verdicts.wroteBuffer, inner.Verdicts.failedBuffer, inner.Verdicts.settled, inner.Verdicts.Decided}
 use Rattle.lists.proofs.Sides.{MeetsIn, SyncOutput}
 use Rattle.lists.proofs.{SoundLaws.sound-held, SizeLaws.fits-within, Accounts.output-of, Calls.in-call, SoundLaws.is-sound, Decisions.Lying, Decisions.Needs, Decisions.Rooms, Decisions.room-of, Decisions.meets-sided, Decisions.decided-unsound, Decisions.decided-refused, Decisions.decided-accepted, Decisions.near-limits, Decisions.decided-sized, Decisions.leaves-is, Inner.limits-side, Inner.sized-of}
 use Rattle.lists.proofs.SoundLaws.{soundness}
@@ -241,11 +241,16 @@ module _ {b : Buffer} {f s : List ℕ} {v : Verdict} {g : GlyphInfo} where
   info-spoils h k q = record { is = decided-refused h (record { law = λ run other l. info-none _ _ (seen g .glyph) (seen g .info) (output-of b run other ∙ k) }) q }
 
   pub info-decided : {m : ℕ} → sound b f s ≡ true → outputPhase (b .phase) ≡ true → m ≡ capacityOf (length f) → Writes m b 0 1 true v → InfoDecided g b f s v
+  unfolding change
   info-decided h o em q = record {
-    is = decided-one _ b f s v (λ run other. seen g .info) (λ run other. seen g .glyph) _ (λ x. Wrote (b .«have_separate_output») x (b .«out_len» .0) (seen g ∷ []) 1) h o
+    is = decided-one _ b f s v (λ run other. withOrigin 0 (seen g .info)) (λ run other. seen g .glyph) _ (λ x. Wrote (b .«have_separate_output») x (b .«out_len» .0) (change (withOrigin 0) (seen g) ∷ []) 1) h o
         (λ run other l. info-writes _ _ (output-of b run other ∙ o) (seen g .glyph) (seen g .info))
         (λ x run other run′ other′ act. rw copies-one act) (room-puttable h) em q;
   }
 
+-- a glyph by what it is
+pub wrote-as : {swapped separate apart : Bool} {to n : ℕ} {f s f′ s′ : List ℕ} {x y : Glyph ℕ} → x ≡ y → Sided swapped (Wrote separate apart to (x ∷ []) n) f s f′ s′ → Sided swapped (Wrote separate apart to (y ∷ []) n) f s f′ s′
+wrote-as e w = rw e at w
+
 -- for the proofs of functions
-pub ruleset write-calls = (soundness, tested, overtakes-apart, overtakes-within, writes-moving, writes-still, idx-still, idx-next, out-next, both-small, output-unsound, copy-spoils, output-spoils, copy-past, copy-decided, output-decided, output-sizes, info-unsound, info-spoils, info-decided)
+pub ruleset write-calls = (soundness, tested, overtakes-apart, overtakes-within, writes-moving, writes-still, idx-still, idx-next, out-next, both-small, output-unsound, copy-spoils, output-spoils, copy-past, copy-decided, output-decided, output-sizes, info-unsound, info-spoils, info-decided, wrote-as)

@@ -4,7 +4,7 @@ use Prim.Native.Nat.{ℕ, suc, _+_, _-_, _≤_, _<_}
 use native.Mathlib.Omega.{arith}
 use borrow.Author.Tests.{le-ltb, lt-ltb, eq-eqb, ne-eqb}
 use lib.{Dec.eqb, Dec.ltb, ListN.length, ListN.take, ListN.getD, Seq.slice, Seq.slice-cons, Seq.slice-empty, Seq.take-suc}
-use Rattle.records.specs.{WrongPhase, OutOfRange, Done, Limits, Counters.capacityOf, Counters.grown, Glyphs.Glyph, Glyphs.Info, Glyphs.blank, Ranges.copies, Ranges.infos, View.glyphs, inner.Stores.zeroGlyph, View.wordsFrom}
+use Rattle.records.specs.{WrongPhase, OutOfRange, Done, Limits, Counters.capacityOf, Counters.grown, Glyphs.Glyph, Glyphs.Info, Glyphs.withOrigin, Glyphs.zeroPosition, Glyphs.blank, Ranges.copies, Ranges.infos, View.glyphs, inner.Stores.zeroGlyph, View.wordsFrom}
 use Rattle.records.proofs.{Renaming.append-map}
 use Rattle.lists.proofs.Changed.{other-limits}
 use Rattle.lists.proofs.Showing.{done-list, rest-list}
@@ -121,6 +121,13 @@ module _ (a : Account ℕ) where
       ∙ ap (λ (r : List Info). getD r 0 (blank 0)) (reverse-append (infos l) (x .info ∷ []))))
 
 -- ---- copy_glyph, output_info and output_glyph
+-- 0C by the words of its operands: the origin that is given with them counts for nothing
+pub info-origin : (g mask cluster var0 var1 o : ℕ)
+    → _≡_ {A = ℕ → Account ℕ → Result ℕ} (λ capacity a. outputInfo capacity g (record { mask = mask; cluster = cluster; var0 = var0; var1 = var1; origin = o; position = zeroPosition }) a)
+    (λ capacity a. outputInfo capacity g (record { mask = mask; cluster = cluster; var0 = var0; var1 = var1; origin = 0; position = zeroPosition }) a)
+unfolding outputInfo withOrigin
+info-origin g mask cluster var0 var1 o = refl
+
 module _ (capacity : ℕ) (a : Account ℕ) where
   pub copy-none : hasOutput a ≡ false → copyGlyph capacity a ≡ refused WrongPhase
   unfolding copyGlyph
@@ -143,7 +150,7 @@ module _ (capacity : ℕ) (a : Account ℕ) where
     unfolding copyGlyph writesOne
     copy-writes k w number e = simp (h, k, refusing) (ap (λ (l : List (Glyph ℕ)). writing capacity 1 (written l (sized (outLen a + 1) a)) a) e)
 
-    pub info-writes : (g : ℕ) (w : Info) → outputInfo capacity g w a ≡ writesOne w g capacity a
+    pub info-writes : (g : ℕ) (w : Info) → outputInfo capacity g w a ≡ writesOne (withOrigin 0 w) g capacity a
     unfolding outputInfo writesOne
     info-writes g w = simp (h, refusing)
 

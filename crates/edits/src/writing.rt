@@ -1,13 +1,14 @@
 // Writing: calls 0A to 0C. Each decides, acts and settles.
 ghost use mathlib.Core.Path.{_≡_};
 ghost use mathlib.Core.Bool.{cond, true, false};
+ghost use mathlib.Core.List.{[], _∷_};
 ghost use Prim.Native.Nat.{_+_, _-_, _≤_, _<_, _^_};
 ghost use lib.ListN.{length, getD};
-ghost use Rattle.records.specs.{View.glyphs, View.seen, inner.Stores.zeroGlyph};
+ghost use Rattle.records.specs.{Glyphs.change, Glyphs.withOrigin, View.glyphs, View.seen, inner.Stores.zeroGlyph};
 ghost use Rattle.lists.specs.Contract.{Meets};
-ghost use Rattle.lists.specs.inner.Verdicts.{settled};
+ghost use Rattle.lists.specs.inner.Verdicts.{settled, Sided};
 ghost use Rattle.edits.specs.Writing.{copyGlyph, outputGlyph, outputInfo};
-ghost use Rattle.edits.specs.inner.Puts.{overtakes, lying, Writes, InfoDecided, OutputDecided, sizeAlone};
+ghost use Rattle.edits.specs.inner.Puts.{overtakes, lying, Puttable, Wrote, Writes, InfoDecided, OutputDecided, sizeAlone};
 use super::puts;
 use lists::Buffer;
 use lists::Reply;
@@ -106,20 +107,37 @@ fn info_verdict(b: Buffer, first: &[u32], second: &[u32], g: GlyphInfo) -> Verdi
     verdicts::refused(b, Refusal::Contradiction)
 }
 
+// One glyph behind the output, with origin 0.
+fn put_info(
+    first: &mut [u32],
+    second: &mut [u32],
+    swapped: bool,
+    separate: bool,
+    apart: bool,
+    out_len: usize,
+    g: GlyphInfo,
+)
+    requires { ⌜ Puttable «out_len» 1 (now first) (now second) ⌝ }
+    ensures { λ r. ⌜ Sided swapped (Wrote separate apart «out_len» (change (withOrigin 0) (seen g) ∷ []) 1) (now (first .entry)) (now (second .entry)) (now (first .exit)) (now (second .exit)) ⌝ }
+{
+    let h = records::glyphs::with_origin(g, 0);
+    puts::put_by(first, second, swapped, separate, apart, out_len, h);
+}
+
 // 0C
 pub fn output_info(b: Buffer, first: &mut [u32], second: &mut [u32], g: GlyphInfo) -> Reply
     ensures { λ r. ⌜ Meets (λ capacity a. outputInfo capacity (seen g .glyph) (seen g .info) a) b (now (first .entry)) (now (second .entry)) r (now (first .exit)) (now (second .exit)) ⌝ }
 {
     let v = info_verdict(b, first, second, g);
     if v.acts {
-        puts::put_by(
+        put_info(
             first,
             second,
             b.swapped,
             b.have_separate_output,
             v.apart,
             b.out_len.0,
-            records::glyphs::with_origin(g, 0),
+            g,
         );
     }
     verdicts::settled(b, v)

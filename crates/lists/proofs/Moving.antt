@@ -5,7 +5,7 @@ use native.Mathlib.Omega.{arith}
 use lib.ListN.{length, take, drop}
 use lib.Seq.{slice, take-take, drop-at, length-take-le}
 use Rattle.records.specs.{Glyphs.Glyph, View.glyphs, View.wordsFrom}
-use Rattle.records.proofs.View.{glyphs-same, whole-same}
+use Rattle.records.proofs.View.{glyphs-same, beyond-glyphs}
 use Rattle.lists.specs.declared.Buffer.{Buffer}
 use Rattle.lists.specs.Account.{outputPhase, withGone}
 use Rattle.lists.proofs.Sides.{Moves}
@@ -14,7 +14,7 @@ use Rattle.lists.specs.Cursor.{moved, growing, back}
 use Rattle.lists.specs.{Contract.accountOf, inner.Held.Held}
 use Rattle.lists.specs.inner.States.{atPlaces}
 use Rattle.lists.proofs.SoundLaws.{out-fits}
-use Rattle.lists.proofs.Outputs.{output-cong, output-places, output-account, beyond}
+use Rattle.lists.proofs.Outputs.{output-cong, output-places, output-account}
 use Rattle.lists.proofs.Copying.{take-copied, drop-copied, drop-take, take-range}
 use Rattle.lists.proofs.Carrying.{take-before, slice-copied, gone-done, gone-rest, gone-run, gone-other, kept-done}
 
@@ -96,8 +96,8 @@ module _ (b : Buffer) (n : ℕ) (run other : List ℕ) (v : Forwardable b n run 
           is = rw e forward-is;
           limits = ap (λ (x : Buffer). x .limits) e;
           side = ap (λ (x : Buffer). x .swapped) e;
-          run-beyond = beyond m run run′ (v .held .whole) lr behind-run;
-          other-beyond = beyond m other other′ (whole-same run other (v .held .same) (v .held .whole)) lo behind-other;
+          run-beyond = beyond-glyphs m run′ run behind-run;
+          other-beyond = beyond-glyphs m other′ other behind-other;
           held = rw e forward-held;
         }
 
@@ -153,7 +153,7 @@ module _ (b : Buffer) (n : ℕ) (run other : List ℕ) (v : Shiftable b n run ot
           is = rw e shift-is;
           limits = ap (λ (x : Buffer). x .limits) e;
           side = ap (λ (x : Buffer). x .swapped) e;
-          run-beyond = beyond m run run′ (v .held .whole) lr behind-run;
+          run-beyond = beyond-glyphs m run′ run behind-run;
           other-beyond = refl;
           held = rw e shift-held;
         }
@@ -217,7 +217,7 @@ module _ (b : Buffer) (n : ℕ) (run other : List ℕ) (v : Returnable b n run o
           is = rw (e, eo) return-is;
           limits = ap (λ (x : Buffer). x .limits) e;
           side = ap (λ (x : Buffer). x .swapped) e;
-          run-beyond = beyond m run run′ (v .held .whole) lr behind-run;
+          run-beyond = beyond-glyphs m run′ run behind-run;
           other-beyond = ap (wordsFrom m) eo;
           held = rw e return-held;
         }

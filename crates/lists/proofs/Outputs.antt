@@ -1,9 +1,8 @@
 -- The account of a buffer with output: two lists, and the input before the cursor gone.
 use mathlib.Core.{Path._≡_, Path.refl, Path.sym, Path.ap, Path._∙_, Bool.true, Bool.false, Bool.cond, Bool.false≢true, List.List, List.[]}
 use Prim.Native.Nat.{ℕ}
-use lib.{ListN.length, ListN.take, ListN.drop, Seq.slice, Seq.slice-empty}
-use Rattle.records.specs.{Phase, Plain, Output, Positions, Spoiled, Glyphs.Glyph, View.glyphs, View.wordsFrom, View.Whole}
-use Rattle.records.proofs.View.{beyond-glyphs}
+use lib.{ListN.take, Seq.slice, Seq.slice-empty}
+use Rattle.records.specs.{Phase, Plain, Output, Positions, Spoiled, Glyphs.Glyph, View.glyphs}
 use Rattle.lists.specs.declared.Buffer.{Buffer}
 use Rattle.lists.specs.Account.{Account, outputPhase, spoiledPhase, readLevel}
 use Rattle.lists.specs.Contract.{shown, goneOf, stateOf, accountOf}
@@ -65,7 +64,3 @@ pub output-account : (b : Buffer) (run other : List ℕ) → outputPhase (b .pha
     → accountOf b run other ≡ output b (b .idx .0) (take (b .«out_len» .0) (cond (b .«have_separate_output») (glyphs other) (glyphs run))) (slice (b .idx .0) (b .len .0) (glyphs run))
 unfolding atPlaces
 output-account b run other h = output-places b (b .idx .0) (b .len .0) (b .«out_len» .0) run other h
-
--- the words from n on, of a slice that has whole glyphs
-pub beyond : (n : ℕ) (ws ws′ : List ℕ) → Whole ws → length ws′ ≡ length ws → drop n (glyphs ws′) ≡ drop n (glyphs ws) → wordsFrom n ws′ ≡ wordsFrom n ws
-beyond n ws ws′ w l e = sym (beyond-glyphs n ws ws′ w (sym l) (sym e))

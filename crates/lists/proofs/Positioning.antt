@@ -5,7 +5,7 @@ use native.Mathlib.Omega.{arith}
 use lib.ListN.{length, take, drop, replicate, length-replicate}
 use lib.Seq.{slice, drop-drop, take-take, drop-append-add}
 use Rattle.records.specs.{Phase, Plain, Output, Positions, Spoiled, Position, Glyphs.Glyph, Glyphs.change, Glyphs.withPosition, Glyphs.zeroPosition, View.glyphs, View.positionsIn, View.paired}
-use Rattle.records.proofs.View.{whole-same, beyond-positions, paired-zero, paired-plain}
+use Rattle.records.proofs.View.{beyond-positions, paired-zero, paired-plain}
 use Rattle.records.proofs.Renaming.{take-map, drop-map}
 use Rattle.lists.specs.declared.Buffer.{Buffer}
 use Rattle.lists.specs.Account.{outputPhase, spoiledPhase, inPhase, readLevel}
@@ -106,6 +106,6 @@ module _ (b : Buffer) (run other : List ℕ) (v : Placeable b run other) where
           limits = ap (λ (x : Buffer). x .limits) e;
           side = ap (λ (x : Buffer). x .swapped) e;
           run-beyond = refl;
-          other-beyond = sym (beyond-positions m other other′ (whole-same run other (v .held .same) (v .held .whole)) (sym lo) (sym behind-other));
+          other-beyond = beyond-positions m other′ other behind-other;
           held = rw e place-held;
         }

@@ -4,6 +4,7 @@ ghost use mathlib.Core.Path.{_≡_};
 ghost use Prim.Native.Nat.{_≤_};
 ghost use lib.ListN.{length};
 ghost use lib.Dec.{ltb};
+ghost use Rattle.records.specs.Counters.{wordsFor};
 ghost use Rattle.commands.specs.Texts.{longest};
 ghost use Rattle.commands.specs.inner.Programs.{RunsFresh};
 ghost use Rattle.commands.specs.Runs.{Runs};
@@ -20,11 +21,13 @@ pub fn script_room() -> [u8; 262145]
     [0; 262145]
 }
 
-// 2,048 glyphs.
-pub fn words() -> [u32; 10240]
-    ensures { λ r. ⌜ 10240 ≡ length r ⌝ }
+// Slices for 2,048 glyphs.
+const WORDS: usize = 2048 * records::words::WORDS;
+
+pub fn words() -> [u32; WORDS]
+    ensures { λ r. ⌜ wordsFor 2048 ≡ length r ⌝ }
 {
-    [0; 10240]
+    [0; WORDS]
 }
 
 // 4,098 longest lines: the lines `end` and `sum`, and two for each glyph that has room.
@@ -77,9 +80,9 @@ fn play(b: Buffer, first: &mut [u32], second: &mut [u32], script: &[u8], out: &m
 
 // From the first buffer, level and wants 0: the last outcome and the number of outcomes of the account's own run.
 pub fn play_fresh(first: &mut [u32], second: &mut [u32], script: &[u8], out: &mut [u8]) -> Ran
-    requires { ⌜ (10240 ≡ length (now first)) × (10240 ≡ length (now second)) ⌝ }
+    requires { ⌜ (wordsFor 2048 ≡ length (now first)) × (wordsFor 2048 ≡ length (now second)) ⌝ }
     requires { ⌜ longest ≤ length (now out) ⌝ }
-    ensures { λ r. ⌜ RunsFresh 10240 (now (script .entry)) r (now (first .exit)) (now (second .exit)) ⌝ }
+    ensures { λ r. ⌜ RunsFresh 2048 (now (script .entry)) r (now (first .exit)) (now (second .exit)) ⌝ }
 {
     let reply = runs::begin(0, 0);
     play(reply.buffer, first, second, script, out)

@@ -65,8 +65,16 @@ pub getD-rows : (ws : List ℕ) (i : ℕ) → i < capacityOf (length ws) → get
 unfolding rows
 getD-rows ws i h = getD-upTo _ (row ws) i [] h
 
+-- ---- a word that is read
+pub got-word : (ws : List ℕ) (c i : ℕ) {at : ℕ} → at ≡ wordPlace (length ws) c i → getD ws at 0 ≡ word ws c i
+unfolding word
+got-word ws c i e = ap (λ (k : ℕ). getD ws k 0) e
+
+pub place-inside : {words c i at : ℕ} → at ≡ wordPlace words c i → (c < 6) × (i < capacityOf words) → at < words
+place-inside {words} {c} {i} e p = rw e (in-range words c i (p .0) (p .1))
+
 -- ---- a word that is written
-pub put-word : (ws : List ℕ) (c i v : ℕ) → c < 6 → i < capacityOf (length ws) → Put ws (set ws (wordPlace (length ws) c i) v) c i v
+put-word : (ws : List ℕ) (c i v : ℕ) → c < 6 → i < capacityOf (length ws) → Put ws (set ws (wordPlace (length ws) c i) v) c i v
 unfolding word
 put-word ws c i v hc hi =
     let at : ℕ = wordPlace (length ws) c i in
@@ -77,6 +85,9 @@ put-word ws c i v hc hi =
       here = rw (length-set ws at v) (getD-set-same ws at v 0 (in-range (length ws) c i hc hi));
       rest = λ d j hd hj n. rw (length-set ws at v) (getD-set-other ws at (wordPlace (length ws) d j) v 0 (λ e. let p = apart (length ws) d j c i hd hc hj hi e in n (p .0) (p .1)));
     }
+
+pub was-put : {ws : List ℕ} {c i at v : ℕ} → at ≡ wordPlace (length ws) c i → (c < 6) × (i < capacityOf (length ws)) → Put ws (set ws at v) c i v
+was-put {ws} {c} {i} {at} {v} e p = rw e (put-word ws c i v (p .0) (p .1))
 
 pub put-place : {ws ws′ : List ℕ} {c i v : ℕ} → Put ws ws′ c i v → i < capacityOf (length ws′)
 put-place {ws} {ws′} p = rw (p .len) (p .inside)

@@ -1,5 +1,5 @@
 -- The words of a glyph and of a position that the functions read and write.
-use mathlib.Core.{Path._≡_, Path.sym, Path.ap, Path._∙_, Bool.true, Bool.false, List.List, List.map}
+use mathlib.Core.{Path._≡_, Path.sym, Path.ap, Path._∙_, Bool.true, Bool.false, List.List}
 use Prim.Native.Nat.{ℕ, _+_, _*_, _/_, _%_, _<_}
 use lib.{ListN.length, ListN.getD, ListN.set, Seq.set-getD, Dec.eqb, Bits.bitAnd, Bits.bitOr}
 use borrow.Author.Tests.{eq-eqb, ne-eqb}
@@ -20,17 +20,23 @@ position-place ws i h = rw (length-positions ws) at h
 
 -- ---- the words that the functions read
 module _ (ws : List ℕ) (i : ℕ) (h : i < length (glyphs ws)) where
-  pub getD-glyphs : getD (glyphs ws) i zeroGlyph ≡ glyphOf (word ws 0 i) (word ws 1 i) (word ws 2 i) (word ws 3 i) (word ws 4 i) (word ws 5 i)
+  getD-glyphs : getD (glyphs ws) i zeroGlyph ≡ glyphOf (word ws 0 i) (word ws 1 i) (word ws 2 i) (word ws 3 i) (word ws 4 i) (word ws 5 i)
   unfolding glyphs made upTo
   getD-glyphs = getD-made glyphOf ws i zeroGlyph (glyph-place ws i h)
 
-  pub mask-word : word ws 1 i ≡ getD (glyphs ws) i zeroGlyph .info .mask
+  mask-word : word ws 1 i ≡ getD (glyphs ws) i zeroGlyph .info .mask
   unfolding glyphOf
   mask-word = sym (ap (λ (g : Glyph ℕ). g .info .mask) getD-glyphs)
 
-  pub cluster-word : word ws 2 i ≡ getD (clusters (glyphs ws)) i 4294967295
+  cluster-word : word ws 2 i ≡ getD (clusters (glyphs ws)) i 4294967295
   unfolding glyphOf
   cluster-word = sym (cluster-of (glyphs ws) i ∙ ap (λ (g : Glyph ℕ). g .info .cluster) getD-glyphs)
+
+  pub got-mask : {w : ℕ} → w ≡ word ws 1 i → w ≡ getD (glyphs ws) i zeroGlyph .info .mask
+  got-mask e = e ∙ mask-word
+
+  pub got-cluster : {w : ℕ} → w ≡ word ws 2 i → w ≡ getD (clusters (glyphs ws)) i 4294967295
+  got-cluster e = e ∙ cluster-word
 
   pub key-first : {w : ℕ} (slot m : ℕ) → w ≡ word ws 3 i → slot ≡ 0 → bitAnd m w ≡ key slot m (getD (glyphs ws) i zeroGlyph .info)
   unfolding key glyphOf
@@ -86,9 +92,9 @@ module _ (l : List (Glyph ℕ)) (i c bits : ℕ) where
   unfolding change flaggedUnless
   unless-same e = rw (eq-eqb (getD l i zeroGlyph .info .cluster) c (sym (cluster-of l i) ∙ e)) (sym (set-getD l i zeroGlyph))
 
-  pub unless-other : (getD (clusters l) i 4294967295 ≡ c → ⊥) → set l i (change (flagged bits) (getD l i zeroGlyph)) ≡ set l i (change (flaggedUnless c bits) (getD l i zeroGlyph))
+  pub unless-other : {x : ℕ} {l′ : List (Glyph ℕ)} → x ≡ getD (clusters l) i 4294967295 → (x ≡ c → ⊥) → l′ ≡ set l i (change (flagged bits) (getD l i zeroGlyph)) → l′ ≡ set l i (change (flaggedUnless c bits) (getD l i zeroGlyph))
   unfolding change flaggedUnless
-  unless-other n = rw (ne-eqb (getD l i zeroGlyph .info .cluster) c (λ (q : getD l i zeroGlyph .info .cluster ≡ c). n (cluster-of l i ∙ q)))
+  unless-other ex n e = e ∙ rw (ne-eqb (getD l i zeroGlyph .info .cluster) c (λ (q : getD l i zeroGlyph .info .cluster ≡ c). n (ex ∙ (cluster-of l i ∙ q))))
 
 -- ---- positions
 pub got-position : (ws : List ℕ) (i : ℕ) {a b c d e f : ℕ} → i < length (positionsIn ws) → a ≡ word ws 0 i → b ≡ word ws 1 i → c ≡ word ws 2 i → d ≡ word ws 3 i → e ≡ word ws 4 i → f ≡ word ws 5 i

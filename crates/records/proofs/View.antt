@@ -3,7 +3,7 @@ use mathlib.Core.{Path._≡_, Path.refl, Path.sym, Path.ap, Path._∙_, Bool.Boo
 use Prim.Native.Nat.{ℕ, zero, suc, _+_, _-_, _*_, _%_, _≤_}
 use native.Mathlib.Omega.{arith}
 use lib.{ListN.length, ListN.getD, ListN.drop, ListN.take, ListN.replicate, ListN.length-map, ListN.List·getD-map, Seq.drop-drop, Seq.length-take-le, Dec.eqb, Dec.leb}
-use borrow.Author.Tests.{eqb-true, leb-true}
+use borrow.Author.Tests.{eqb-true, leb-true, eq-eqb, le-leb}
 use Rattle.records.specs.{declared.Position.Position, declared.GlyphInfo.GlyphInfo}
 use Rattle.records.specs.Counters.{capacityOf, rightlyLent, wordsFor}
 use Rattle.records.specs.Glyphs.{Glyph, change, withPosition, zeroPosition}
@@ -67,14 +67,14 @@ length-positions ws = length-map (rows ws) (made positionOf) ∙ length-rows ws
 
 -- ---- what the crates above know of the view, whatever the layout
 -- the words from the n-th glyph on go by the glyphs, and by the positions
-pub beyond-glyphs : (n : ℕ) (v w : List ℕ) → Whole v → length v ≡ length w → drop n (glyphs v) ≡ drop n (glyphs w) → wordsFrom n v ≡ wordsFrom n w
+pub beyond-glyphs : (n : ℕ) (v w : List ℕ) → drop n (glyphs v) ≡ drop n (glyphs w) → wordsFrom n v ≡ wordsFrom n w
 unfolding wordsFrom glyphs glyphOf made upTo
-beyond-glyphs n v w h l e =
+beyond-glyphs n v w e =
     beyond-made glyphOf (λ g. g .glyph ∷ (g .info .mask ∷ (g .info .cluster ∷ (g .info .var0 ∷ (g .info .var1 ∷ (g .info .origin ∷ [])))))) (λ ws i. refl) n v w e
 
-pub beyond-positions : (n : ℕ) (v w : List ℕ) → Whole v → length v ≡ length w → drop n (positionsIn v) ≡ drop n (positionsIn w) → wordsFrom n v ≡ wordsFrom n w
+pub beyond-positions : (n : ℕ) (v w : List ℕ) → drop n (positionsIn v) ≡ drop n (positionsIn w) → wordsFrom n v ≡ wordsFrom n w
 unfolding wordsFrom positionsIn positionOf made upTo
-beyond-positions n v w h l e =
+beyond-positions n v w e =
     beyond-made positionOf (λ p. p .«x_advance» ∷ (p .«y_advance» ∷ (p .«x_offset» ∷ (p .«y_offset» ∷ (p .var ∷ (p .free ∷ [])))))) (λ ws i. refl) n v w e
 
 -- words that are the same from a place on are so from any later one
@@ -150,6 +150,15 @@ unfolding paired
 paired-zero zero l ps = refl
 paired-zero (suc n) [] ps = refl
 paired-zero (suc n) (g ∷ l) ps = ap {B = List (Glyph ℕ)} (λ r. change (withPosition zeroPosition) g ∷ r) (paired-zero n l ps)
+
+-- slices that are lent for n glyphs have that capacity, and are rightly lent
+pub capacity-for : (n : ℕ) → capacityOf (wordsFor n) ≡ n
+unfolding capacityOf wordsFor
+capacity-for n = omega arith
+
+pub lent-for : (n : ℕ) → n ≤ 1048576 → rightlyLent (wordsFor n) (wordsFor n) ≡ true
+unfolding rightlyLent wordsFor
+lent-for n h = rw (eq-eqb (6 * n) (6 * n) refl, eq-eqb (6 * n % 6) 0 (omega arith), capacity-for n, le-leb n 1048576 h)
 
 pub glyphs-fit : (ws : List ℕ) → length (glyphs ws) ≤ length ws
 unfolding capacityOf

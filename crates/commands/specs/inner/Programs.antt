@@ -10,7 +10,7 @@ use Rattle.commands.specs.Texts.{examRun, Plays}
 use Rattle.commands.specs.Claims.{SameLengths}
 use Rattle.commands.specs.{declared.Ran.Ran, declared.Played.Played}
 
--- the whole run of a string over slices of n words: the last outcome, and how many there are
+-- the whole run of a string over slices for n glyphs: the last outcome, and how many there are
 pub record RunsFresh (n : ℕ) (script : List ℕ) (r : Ran) (f′ s′ : List ℕ) : Type 0 where
   pub last : outcomeOf (r .reply) f′ s′ ≡ lastOf (record { answer = ok; after = freshAccount 0 0 }) (examRun n script)
   pub all : r .commands ≡ length (examRun n script)

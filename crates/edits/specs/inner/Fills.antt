@@ -28,7 +28,7 @@ pub record Put (at number cluster origin : ℕ) (run other run′ other′ : Lis
   pub other-is : other′ ≡ other
 
 pub record Pushes (b : Buffer) (f s : List ℕ) (v : Verdict) : Type 0 where
-  pub is : (g c : ℕ) → Decided (λ capacity a. push capacity g c a) b f s (settled b v) (v .acts) (Puttable (b .len .0) f s) (Put (b .len .0) g c (nextPush (b .limits)))
+  pub is : (g c : ℕ) {o : ℕ} → o ≡ nextPush (b .limits) → Decided (λ capacity a. push capacity g c a) b f s (settled b v) (v .acts) (Puttable (b .len .0) f s) (Put (b .len .0) g c o)
 
 -- ---- set_length
 -- the first n glyphs of a run of m, with zeros for those that it does not have

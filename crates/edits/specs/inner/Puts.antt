@@ -2,7 +2,7 @@
 use mathlib.Core.{Path._≡_, Bool.Bool, Bool.false, Bool.cond, Bool.not, Bool._&&_, Bool._||_, List.List, List.[], List._∷_}
 use Prim.Native.Nat.{ℕ, _+_, _-_, _≤_, _<_}
 use lib.{Dec.ltb, ListN.length, ListN.getD}
-use Rattle.records.specs.{Limits, Glyphs.Glyph, Ranges.copies, View.glyphs, View.seen, inner.Stores.zeroGlyph}
+use Rattle.records.specs.{Limits, Glyphs.Glyph, Glyphs.change, Glyphs.withOrigin, Ranges.copies, View.glyphs, View.seen, inner.Stores.zeroGlyph}
 use Rattle.records.specs.declared.GlyphInfo.{GlyphInfo}
 use Rattle.lists.specs.{declared.Buffer.Buffer, declared.Verdict.Verdict}
 use Rattle.lists.specs.{Account.Account, Account.readLevel, inner.Copied.copied, Account.Result, inner.Held.roomFor, inner.States.atPlaces, inner.States.apartBuffer, inner.Verdicts.bySize, inner.Verdicts.Sided, inner.Verdicts.settled, inner.Verdicts.Decided}
@@ -90,7 +90,7 @@ pub record OutputDecided (call : ℕ → Account ℕ → Result ℕ) (own : Bool
 
 -- and of one on 0C
 pub record InfoDecided (g : GlyphInfo) (b : Buffer) (f s : List ℕ) (v : Verdict) : Type 0 where
-  pub is : Decided (λ capacity a. outputInfo capacity (seen g .glyph) (seen g .info) a) b f s (settled b v) (v .acts) (Puttable (b .«out_len» .0) 1 f s) (Wrote (b .«have_separate_output») (v .apart) (b .«out_len» .0) (seen g ∷ []) 1)
+  pub is : Decided (λ capacity a. outputInfo capacity (seen g .glyph) (seen g .info) a) b f s (settled b v) (v .acts) (Puttable (b .«out_len» .0) 1 f s) (Wrote (b .«have_separate_output») (v .apart) (b .«out_len» .0) (change (withOrigin 0) (seen g) ∷ []) 1)
 
 -- and of one on 0E
 pub record ReplaceDecided (num-in num-out : ℕ) (gs : List ℕ) (b : Buffer) (f s : List ℕ) (v : Verdict) : Type 0 where

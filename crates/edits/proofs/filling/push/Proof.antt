@@ -13,7 +13,7 @@ same-length-2 : tie.Need-same-length-2
 same-length-2 c = let end : tie.Joined1 = search in ⊎-elim (λ w. search (ending, needs)) (λ w. search (ending, needs)) (end .if1 .came)
 
 returns : tie.Need-returns
-returns c = let end : tie.Joined1 = search in let at : tie.After-push-verdict = search in serving (at .push-verdict .ensures .is _ _) (λ d. ⊎-elim (λ w. search ending) (λ w. search ending) (end .if1 .came))
+returns c = let end : tie.Joined1 = search in let at : tie.After-push-verdict = search in let next : tie.After-next-push = search in serving (at .push-verdict .ensures .is _ _ (next .next-push .ensures)) (λ d. ⊎-elim (λ w. search ending) (λ w. search ending) (end .if1 .came))
 
 pub push-spec : {M : Type 1} → statement M
-push-spec = tie.close (tie.spec (search needs) (λ c κs. search push-calls) (search needs) same-length same-length-2 returns)
+push-spec = tie.close (tie.spec (search needs) (search needs) (λ c κs. search push-calls) (search needs) same-length same-length-2 returns)
