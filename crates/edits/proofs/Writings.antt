@@ -9,7 +9,7 @@ use Rattle.records.proofs.{Renaming.append-map}
 use Rattle.lists.proofs.Changed.{other-limits}
 use Rattle.lists.proofs.Showing.{done-list, rest-list}
 use Rattle.lists.specs.{declared.Buffer.Buffer, declared.Reply.Reply, declared.Room.the-variants.Fits}
-use Rattle.lists.specs.{Account.Account, Account.outputPhase, Account.withGone, Account.hasOutput, Account.outLen, Account.failing, Account.sized, Cursor.dropping, Account.refused, Account.accepted, Account.needing, Contract.accountOf, inner.Held.Held, inner.Held.roomFor, inner.States.reply, inner.States.withLimitsOf}
+use Rattle.lists.specs.{Account.Account, Account.outputPhase, Account.withGone, Account.hasOutput, Account.outLen, Account.failing, Account.sized, Cursor.dropping, Account.Result, Account.refused, Account.accepted, Account.needing, Contract.accountOf, inner.Held.Held, inner.Held.roomFor, inner.States.reply, inner.States.withLimitsOf}
 use Rattle.lists.proofs.Sides.{MeetsIn, SyncOutput}
 use Rattle.lists.proofs.{Accounts.output-clean, Accounts.limits-of, Accounts.out-of, Accounts.rest-of, SizeLaws.needing-fits, Calls.in-accepted}
 use Rattle.edits.specs.{Writing.written, Writing.model, Writing.writing, Writing.copyGlyph, Writing.outputGlyph, Writing.outputInfo}
