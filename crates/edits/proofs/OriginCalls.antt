@@ -41,7 +41,7 @@ pub ruleset drawing = (lists.drawing, same-mask, same-cluster, same-merged, same
 
 module _ {G : Type 0} {n : ℕ} where
   -- ---- flags
-  pub interior-within : (level m bits i j : ℕ) {l : List (Glyph G)} → Within n l → Within n (interior level m bits i j l)
+  interior-within : (level m bits i j : ℕ) {l : List (Glyph G)} → Within n l → Within n (interior level m bits i j l)
   unfolding interior
   interior-within level m bits i j w = search drawing
 
@@ -72,7 +72,7 @@ module _ {G : Type 0} {n : ℕ} where
     outbuffer-leaves i w bits s e = search (drawing, flag-out-interior, flag-out-all) depth 9
 
     -- ---- merging
-    pub drawn-merged : (s e : ℕ) → Drawn n (merged s e a)
+    drawn-merged : (s e : ℕ) → Drawn n (merged s e a)
     unfolding merged
     drawn-merged s e = search drawing depth 9
 
