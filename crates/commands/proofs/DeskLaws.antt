@@ -4,7 +4,7 @@ use Prim.Native.Nat.{ℕ, zero, suc}
 use native.Mathlib.Omega.{arith}
 use borrow.Author.Tests.{ne-eqb}
 use lib.{ListN.length, ListN.getD}
-use Rattle.records.specs.{Answers.ok, Glyphs.Glyph, Glyphs.rename, View.seen, View.stored}
+use Rattle.records.specs.{Answers.ok, Counters.wordsFor, Glyphs.Glyph, Glyphs.rename, View.seen, View.stored}
 use Rattle.records.specs.declared.GlyphInfo.{GlyphInfo}
 use Rattle.lists.specs.{Account.Account, Account.freshAccount, Account.renamed, Account.Outcome, Contract.items}
 use Rattle.lists.specs.{declared.Item.Item, declared.Item.the-variants.OfDone, declared.Item.the-variants.OfPassed, declared.Item.the-variants.OfRest}
@@ -113,7 +113,7 @@ module _ (f : ℕ → ℕ) where
 
   run-renamed : f 0 ≡ 0 → (n : ℕ) (bytes : List ℕ) → examRun n (renamedBytes f bytes) ≡ map (renamedOutcome f) (examRun n bytes)
   unfolding examRun
-  run-renamed keeps-zero n bytes = rw (fresh-renamed f 0 0) at (runBytes-rename f keeps-zero n n bytes (freshAccount 0 0))
+  run-renamed keeps-zero n bytes = rw (fresh-renamed f 0 0) at (runBytes-rename f keeps-zero (wordsFor n) (wordsFor n) bytes (freshAccount 0 0))
 
   -- of a string renamed, by any f that sends 0 to 0
   pub desk-renamed : f 0 ≡ 0 → (n : ℕ) (bytes : List ℕ) → deskText n (renamedBytes f bytes) ≡ deskText n bytes

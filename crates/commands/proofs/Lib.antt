@@ -18,6 +18,7 @@ pub mod FieldLaws
 pub mod TotalLaws
 pub mod SumIsRead
 pub mod DeskLaws
+pub mod Originated
 pub mod Claims
 pub mod ClaimExamples
 pub mod ColumnLaws

@@ -4,6 +4,10 @@ use Rattle.records.specs.{Glyphs.Glyph, Ranges.is}
 use Rattle.lists.specs.{Account.Account, Account.len, Account.Outcome, Contract.isNo}
 use Rattle.commands.specs.Calls.{Call, Worded, commandByte}
 
+-- "past number 4,294,967,295 a pushed glyph gets 0 and the count stays"
+abbrev pub capped : ℕ → ℕ
+capped n = min n 4294967295
+
 module _ {G : Type 0} where
   -- "Accepted pushes that store a glyph are numbered from 1 since fresh", counted from the list itself: there were n before a call, and so many are there
   -- after it. An accepted 00 starts anew; a 01 that has stored its glyph leaves `len` one more, and one that is refused or gives up does not
@@ -11,9 +15,6 @@ module _ {G : Type 0} where
   storedAfter n c a o =
       cond (is 0 (commandByte c) && not (isNo (o .answer))) 0
       (cond (is 1 (commandByte c) && is (suc (len a)) (len (o .after))) (suc n) n)
-  -- "past number 4,294,967,295 a pushed glyph gets 0 and the count stays"
-  abbrev pub capped : ℕ → ℕ
-  capped n = min n 4294967295
   -- each origin is 0, or one of 1 to n
   abbrev pub OriginsUpTo : (n : ℕ) → List (Glyph G) → Type 0
   OriginsUpTo n [] = Unit {0}

@@ -23,6 +23,8 @@ pub mod MergeEach
 pub mod MergeForms
 pub mod MergeLaws
 pub mod MergePlans
+pub mod OriginCalls
+pub mod OriginRuns
 pub mod OutCalls
 pub mod OutFlagCalls
 pub mod OutFlags

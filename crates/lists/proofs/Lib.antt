@@ -23,6 +23,7 @@ pub mod ItemLaws
 pub mod Joining
 pub mod MoveCalls
 pub mod Moving
+pub mod OriginLaws
 pub mod Outputs
 pub mod PairTurns
 pub mod PhaseCalls
