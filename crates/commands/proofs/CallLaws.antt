@@ -37,10 +37,11 @@ done-at n h = rw (ne-eqb n 4294967295 h)
 
 -- ---- calls with operands that are made of words
 module _ {b : Buffer} {f s f′ s′ : List ℕ} {r : Reply} where
-  pub info-call : (g : GlyphInfo) → Meets (λ capacity a. outputInfo capacity (seen g .glyph) (seen g .info) a) b f s r f′ s′
-      → Meets (λ capacity a. perform 0 capacity (c0C-output-info (g .mask) (g .cluster) (g .var0) (g .var1)) (g .glyph ∷ []) a) b f s r f′ s′
+  -- 0C by its operands
+  pub info-call : (n m c v w o : ℕ) → let g : GlyphInfo = record { glyph = n; mask = m; cluster = c; var0 = v; var1 = w; origin = o } in Meets (λ capacity a. outputInfo capacity (seen g .glyph) (seen g .info) a) b f s r f′ s′
+      → Meets (λ capacity a. perform 0 capacity (c0C-output-info m c v w) (n ∷ []) a) b f s r f′ s′
   unfolding perform
-  info-call g m = rw (info-origin (g .glyph) (g .mask) (g .cluster) (g .var0) (g .var1) (g .origin)) at (rw (seen-number g, seen-info g) at m)
+  info-call n m c v w o x = let g : GlyphInfo = record { glyph = n; mask = m; cluster = c; var0 = v; var1 = w; origin = o } in rw (info-origin n m c v w o) at (rw (seen-number g, seen-info g) at x)
 
   module _ {x y : Option InputPlace} (start end : InputBound) (ex : inputBound start ≡ x) (ey : inputBound end ≡ y) where
     pub break-call : Meets (λ capacity a. plainForm true true 3 (inputBound start) (inputBound end) a) b f s r f′ s′

@@ -14,12 +14,14 @@ module _ {G : Type 0} where
   pub data Within (n : ℕ) : List (Glyph G) → Type 0 where
     none : Within n []
     more : {g : Glyph G} {l : List (Glyph G)} → g .info .origin ≤ n → Within n l → Within n (g ∷ l)
+
   -- an account
   pub record Drawn (n : ℕ) (a : Account G) : Type 0 where
     pub count : a .state .limits .pushes ≡ n
     pub done : Within n (a .done)
     pub passed : Within n (a .passed)
     pub rest : Within n (a .rest)
+
   -- what a call comes to
   pub data Leaves (n : ℕ) : Result G → Type 0 where
     refuses : {r : Refusal} → Leaves n (refused r)

@@ -52,4 +52,3 @@ module _ {A : Type 0} (mk : ℕ → ℕ → ℕ → ℕ → ℕ → ℕ → A) w
         let step : (ws : List ℕ) → drop n (rows ws) ≡ map un (drop n (map (made mk) (rows ws))) =
         λ ws. ap (drop n) (sym (flat-rows ws)) ∙ drop-map un n (map (made mk) (rows ws)) in
         step v ∙ (ap (map un) e ∙ sym (step w))
-

@@ -16,21 +16,12 @@ pub apart : (words c i d j : ℕ) → c < 6 → d < 6 → i < capacityOf words �
 unfolding wordPlace capacityOf
 apart words c i d j hc hd hi hj e = (omega arith, omega arith)
 
-pub capacity-fits : (ws : List ℕ) → capacityOf (length ws) ≤ length ws
-unfolding capacityOf
-capacity-fits ws = omega arith
-
 -- ---- two cases
 pub cases-eq : {P : Type 0} (m n : ℕ) → (m ≡ n → P) → ((m ≡ n → ⊥) → P) → P
 cases-eq zero zero y o = y refl
 cases-eq zero (suc n) y o = o (λ e. omega arith)
 cases-eq (suc m) zero y o = o (λ e. omega arith)
 cases-eq (suc m) (suc n) y o = cases-eq m n (λ e. y (ap suc e)) (λ h. o (λ e. h (suc-inj e)))
-
-pub cases-lt : {P : Type 0} (m n : ℕ) → (m < n → P) → (n ≤ m → P) → P
-cases-lt m zero y o = o (omega arith)
-cases-lt zero (suc n) y o = y (omega arith)
-cases-lt (suc m) (suc n) y o = cases-lt m n (λ h. y (omega arith)) (λ h. o (omega arith))
 
 -- ---- lists made by place
 module _ {A : Type 0} where

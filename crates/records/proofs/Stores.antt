@@ -106,4 +106,3 @@ pub put-positions : {w₀ w₁ w₂ w₃ w₄ w₅ w₆ : List ℕ} {i : ℕ} {p
     → positionsIn w₆ ≡ set (positionsIn w₀) i p
 unfolding positionsIn positionOf
 put-positions p₀ p₁ p₂ p₃ p₄ p₅ = six-made positionOf p₀ p₁ p₂ p₃ p₄ p₅
-

@@ -156,6 +156,10 @@ pub capacity-for : (n : ℕ) → capacityOf (wordsFor n) ≡ n
 unfolding capacityOf wordsFor
 capacity-for n = omega arith
 
+pub words-within : (n words : ℕ) → n ≤ capacityOf words → wordsFor n ≤ words
+unfolding capacityOf wordsFor
+words-within n words h = omega arith
+
 pub lent-for : (n : ℕ) → n ≤ 1048576 → rightlyLent (wordsFor n) (wordsFor n) ≡ true
 unfolding rightlyLent wordsFor
 lent-for n h = rw (eq-eqb (6 * n) (6 * n) refl, eq-eqb (6 * n % 6) 0 (omega arith), capacity-for n, le-leb n 1048576 h)
@@ -188,4 +192,3 @@ length-clusters l = length-map l _
 pub cluster-of : (l : List (Glyph ℕ)) (i : ℕ) → getD (clusters l) i 4294967295 ≡ getD l i zeroGlyph .info .cluster
 unfolding clusters zeroGlyph glyphOf
 cluster-of l i = List·getD-map (λ g. g .info .cluster) l i zeroGlyph
-

@@ -1,6 +1,6 @@
 // The words of a slice: word c of glyph i, or of position i. Where it lies, only `place_of` knows.
 ghost use mathlib.Core.Path.{_≡_};
-ghost use Prim.Native.Nat.{_<_, _≤_};
+ghost use Prim.Native.Nat.{_<_, _^_};
 ghost use lib.ListN.{length};
 ghost use Rattle.records.specs.Counters.{capacityOf, wordsFor};
 ghost use Rattle.records.specs.{View.wordPlace, View.word, inner.Stores.Put};
@@ -10,7 +10,7 @@ pub const WORDS: usize = 6;
 
 // How many words a capacity needs.
 pub fn words_for(capacity: usize) -> usize
-    requires { ⌜ capacity ≤ 1048576 ⌝ }
+    requires { ⌜ wordsFor capacity < 2 ^ 64 ⌝ }
     ensures { λ r. ⌜ r ≡ wordsFor capacity ⌝ }
 {
     WORDS * capacity

@@ -32,13 +32,13 @@ fn lent(
     text: &[u8],
     capacity: usize,
 ) -> Tally {
-    if first.len() / 5 < capacity {
+    if records::glyphs::capacity(first) < capacity {
         return reading::refused(t, b" has too large a capacity");
     }
-    if second.len() / 5 < capacity {
+    if records::glyphs::capacity(second) < capacity {
         return reading::refused(t, b" has too large a capacity");
     }
-    let end = 5 * capacity;
+    let end = records::words::words_for(capacity);
     play(t, &mut first[..end], &mut second[..end], script, text)
 }
 

@@ -1,12 +1,15 @@
 // What the program holds, on its stack.
 ghost use mathlib.Core.Path.{_≡_};
 ghost use lib.ListN.{length};
+ghost use Rattle.records.specs.Counters.{wordsFor};
 
 // 65,537 glyphs, one more than `enter` allows a short run.
-pub(crate) fn words() -> [u32; 327685]
-    ensures { λ r. ⌜ 327685 ≡ length r ⌝ }
+const WORDS: usize = 65537 * records::words::WORDS;
+
+pub(crate) fn words() -> [u32; WORDS]
+    ensures { λ r. ⌜ wordsFor 65537 ≡ length r ⌝ }
 {
-    [0; 327685]
+    [0; WORDS]
 }
 
 // The commands of a list.

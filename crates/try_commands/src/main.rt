@@ -10,6 +10,9 @@ use records::Answer;
 use records::InputPlace;
 use records::Refusal;
 
+// Slices for sixteen glyphs.
+const WORDS: usize = 16 * records::words::WORDS;
+
 mod lending;
 mod reading;
 
@@ -87,8 +90,8 @@ fn play(b: Buffer, first: &mut [u32], second: &mut [u32], list: &[u8]) -> Buffer
 // The list has one command to a line: A to D with clusters 0 to 3; 0B, before there is output; 03; 08, five and two; 0B; 11,
 // before the cursor and from it on; 10, too far and back; 11; 10 forward; 08; 04, twice. Another list is a command cut off.
 fn main() {
-    let mut first = [0u32; 80];
-    let mut second = [0u32; 80];
+    let mut first = [0u32; WORDS];
+    let mut second = [0u32; WORDS];
     let fresh = Buffer::new(0, 0);
     let b = play(
         fresh.buffer,

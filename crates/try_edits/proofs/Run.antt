@@ -2,7 +2,7 @@
 use mathlib.Core.{Path._≡_, Path.refl, List.List, List.[], List._∷_}
 use Prim.Native.Nat.{ℕ}
 use lib.ListN.{replicate}
-use Rattle.records.specs.{Glyphs.Glyph, Glyphs.blank, View.fives, View.glyphOf, View.glyphs}
+use Rattle.records.specs.{Glyphs.Glyph, Glyphs.blank, Counters.wordsFor, View.wordPlace, View.word, View.upTo, View.rows, View.made, View.glyphOf, View.glyphs}
 use Rattle.lists.specs.declared.Buffer.{Buffer}
 use Rattle.lists.specs.{Account.Account, Account.Result, Account.outcome, Contract.shown, Contract.goneOf, Contract.stateOf, Contract.accountOf, Contract.account, Contract.inOrder, Contract.sound, Cursor.clearOutput}
 use Rattle.lists.proofs.{Chains.At}
@@ -11,7 +11,7 @@ use Rattle.edits.proofs.{Executable.executable}
 use Rattle.try_edits.specs.Codes.{codeOf, started}
 
 abbrev pub zeros : List ℕ
-zeros = replicate 15 0
+zeros = replicate (wordsFor 3) 0
 
 unfoldable pub nil : Glyph ℕ
 nil = record { glyph = 0; info = blank 0 }
@@ -48,7 +48,7 @@ unfoldable pub a₅ : Account ℕ
 a₅ = outcome a₄ (over a₄) .after
 
 pub at-start : {b : Buffer} → b ≡ started 2 0 → At 3 a₀ b zeros zeros
-unfolding executable nil a₀ started account accountOf shown goneOf stateOf sound inOrder glyphs fives glyphOf
+unfolding executable nil a₀ started account accountOf shown goneOf stateOf sound inOrder glyphs rows upTo made word wordPlace glyphOf
 at-start e = rw e (record { is = refl; fit = refl; room = refl })
 
 -- too few numbers: 4, before 5

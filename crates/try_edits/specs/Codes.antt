@@ -15,7 +15,7 @@ started n level = record {
   len = record { 0 = n };
   «out_len» = record { 0 = 0 };
   phase = Plain;
-  limits = record { allocated = n; «max_len» = 1073741823; «max_ops» = 536870911; successful = true; serial = 0 };
+  limits = record { allocated = n; «max_len» = 1073741823; «max_ops» = 536870911; successful = true; serial = 0; pushes = 0 };
   level = level;
   wants = 0;
   swapped = false;

@@ -13,10 +13,17 @@ use edits::replacing::replace_glyphs;
 use edits::writing::output_glyph;
 use records::InputPlace;
 
+// Slices for so many glyphs.
+const THREE: usize = 3 * records::words::WORDS;
+
+const SIX: usize = 6 * records::words::WORDS;
+
+const SEVEN: usize = 7 * records::words::WORDS;
+
 // Answers that are proved before the program runs: each `expect` is a fact of the contracts.
 fn expected() {
-    let mut first = [0u32; 15];
-    let mut second = [0u32; 15];
+    let mut first = [0u32; THREE];
+    let mut second = [0u32; THREE];
     let two = [90u32, 91];
     let three = [90u32, 91, 92];
     let opened = lists::cursor::clear_output(codes::start(2, 0), &first, &second);

@@ -10,6 +10,7 @@ pub(crate) fn glyph(number: u32, cluster: u32) -> GlyphInfo {
         cluster: cluster,
         var0: number % 32,
         var1: number % 8,
+        origin: number % 4,
     }
 }
 

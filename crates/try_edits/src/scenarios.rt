@@ -5,8 +5,8 @@ use super::scripts;
 
 // A script over a run with these clusters, at a level.
 fn play(level: u32, a: u32, b: u32, c: u32, d: u32, e: u32, f: u32, script: &[u8]) {
-    let mut first = [0u32; 35];
-    let mut second = [0u32; 35];
+    let mut first = [0u32; super::SEVEN];
+    let mut second = [0u32; super::SEVEN];
     runs::fill(&mut first, a, b, c, d, e, f);
     scripts::run(codes::start(6, level), &mut first, &mut second, script);
 }
@@ -41,8 +41,8 @@ fn outputting() {
 
 // 0B with both lists empty makes its size only.
 fn outputting_nothing() {
-    let mut first = [0u32; 35];
-    let mut second = [0u32; 35];
+    let mut first = [0u32; super::SEVEN];
+    let mut second = [0u32; super::SEVEN];
     scripts::run(
         codes::start(0, 0),
         &mut first,
@@ -219,8 +219,8 @@ fn merging_graphemes_at(level: u32) {
 
 // 11 to 14 where a merge found no work left, and `sync` spoiled the buffer.
 fn spoiled() {
-    let mut first = [0u32; 35];
-    let mut second = [0u32; 35];
+    let mut first = [0u32; super::SEVEN];
+    let mut second = [0u32; super::SEVEN];
     runs::fill(&mut first, 5, 4, 3, 4, 3, 6);
     let b = runs::with_ops(codes::start(6, 0), 1);
     scripts::run(
@@ -233,8 +233,8 @@ fn spoiled() {
 
 // Slices of unequal lengths.
 fn contradicted() {
-    let mut first = [0u32; 35];
-    let mut second = [0u32; 30];
+    let mut first = [0u32; super::SEVEN];
+    let mut second = [0u32; super::SIX];
     let b = codes::start(6, 0);
     scripts::run(
         b,

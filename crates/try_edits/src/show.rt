@@ -53,7 +53,7 @@ pub(crate) fn shown(call: &[u8], r: Reply) -> Buffer {
     r.buffer
 }
 
-// Glyph, cluster, mask, var0, var1.
+// Glyph, cluster, mask, var0, var1: document 01's words, which harfrust has too.
 fn glyph_line(list: &[u8], g: GlyphInfo) {
     io::write_all(1, list);
     field(g.glyph as u64);

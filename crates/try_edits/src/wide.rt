@@ -121,6 +121,7 @@ fn make(b: Buffer, first: &mut [u32], second: &mut [u32], ones: u8, o: Operands)
                 cluster: o.x,
                 var0: o.y,
                 var1: o.z,
+                origin: 0,
             };
             writing::output_info(b, first, second, g)
         }
@@ -168,8 +169,8 @@ fn step(b: Buffer, first: &mut [u32], second: &mut [u32], script: &[u8], at: usi
 
 // A script from a fresh buffer for seven glyphs.
 pub(crate) fn play(level: u32, wants: u32, script: &[u8]) {
-    let mut first = [0u32; 35];
-    let mut second = [0u32; 35];
+    let mut first = [0u32; super::SEVEN];
+    let mut second = [0u32; super::SEVEN];
     let reply = Buffer::new(level, wants);
     run(reply.buffer, &mut first, &mut second, script);
 }

@@ -2,14 +2,14 @@
 use mathlib.Core.{Path._≡_, Path.refl, List.List, List.[], List._∷_}
 use Prim.Native.Nat.{ℕ}
 use lib.ListN.{replicate}
-use Rattle.records.specs.{Glyphs.Glyph, Glyphs.blank, View.fives, View.glyphOf, View.glyphs}
+use Rattle.records.specs.{Glyphs.Glyph, Glyphs.blank, Counters.wordsFor, View.wordPlace, View.word, View.upTo, View.rows, View.made, View.glyphOf, View.glyphs}
 use Rattle.lists.specs.declared.Buffer.{Buffer}
 use Rattle.lists.specs.{Account.Account, Account.outcome, Contract.shown, Contract.goneOf, Contract.stateOf, Contract.accountOf, Contract.account, Contract.inOrder, Contract.sound, Cursor.clearOutput, Cursor.nextGlyphs, Cursor.moveTo, Cursor.sync}
 use Rattle.lists.proofs.{Executable.executable, Chains.At}
 use Rattle.try_lists.specs.Codes.{codeOf, started}
 
 abbrev pub zeros : List ℕ
-zeros = replicate 30 0
+zeros = replicate (wordsFor 6) 0
 
 unfoldable pub nil : Glyph ℕ
 nil = record { glyph = 0; info = blank 0 }
@@ -33,7 +33,7 @@ unfoldable pub a₅ : Account ℕ
 a₅ = outcome a₄ (sync 6 a₄) .after
 
 pub at-start : {b : Buffer} → b ≡ started → At 6 a₀ b zeros zeros
-unfolding executable nil a₀ started account accountOf shown goneOf stateOf sound inOrder glyphs fives glyphOf
+unfolding executable nil a₀ started account accountOf shown goneOf stateOf sound inOrder glyphs rows upTo made word wordPlace glyphOf
 at-start e = rw e (record { is = refl; fit = refl; room = refl })
 
 pub far-code : codeOf (outcome a₁ (nextGlyphs 6 4 a₁) .answer) ≡ 5

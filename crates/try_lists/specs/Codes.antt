@@ -15,7 +15,7 @@ started = record {
   len = record { 0 = 3 };
   «out_len» = record { 0 = 0 };
   phase = Plain;
-  limits = record { allocated = 6; «max_len» = 1073741823; «max_ops» = 536870911; successful = true; serial = 0 };
+  limits = record { allocated = 6; «max_len» = 1073741823; «max_ops» = 536870911; successful = true; serial = 0; pushes = 0 };
   level = 0;
   wants = 0;
   swapped = false;

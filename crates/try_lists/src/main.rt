@@ -7,6 +7,11 @@ use records::Answer;
 use records::DonePlace;
 use records::GlyphInfo;
 
+// Slices for six glyphs, and one for five.
+const WORDS: usize = 6 * records::words::WORDS;
+
+const SHORT: usize = 5 * records::words::WORDS;
+
 fn field(n: u64) {
     io::write_all(1, b" ");
     io::print_decimal(1, n);
@@ -44,6 +49,7 @@ fn print_glyph(g: GlyphInfo) {
     field(g.cluster as u64);
     field(g.var0 as u64);
     field(g.var1 as u64);
+    field(g.origin as u64);
 }
 
 // The glyphs of a slice, all of their words.
@@ -61,6 +67,7 @@ fn glyph(number: u32, cluster: u32) -> GlyphInfo {
         cluster: cluster,
         var0: 0,
         var1: 0,
+        origin: number % 8,
     }
 }
 
@@ -113,8 +120,8 @@ fn plain(b: Buffer, first: &mut [u32], second: &mut [u32]) -> Buffer {
 // The cursor over the run: there, too far, back, and `sync` once more than there is output.
 // Each answer is proved before the program runs: an `expect` is a fact of the contracts.
 fn expected() {
-    let mut first = [0u32; 30];
-    let mut second = [0u32; 30];
+    let mut first = [0u32; WORDS];
+    let mut second = [0u32; WORDS];
     let opened = lists::cursor::clear_output(codes::start(), &first, &second);
     let far = lists::cursor::next_glyphs(opened.buffer, &mut first, &mut second, 4);
     let far_answer = far.answer;
@@ -148,9 +155,9 @@ fn fill(ws: &mut [u32], a: u32, b: u32, c: u32) {
 
 fn main() {
     expected();
-    let mut first = [0u32; 30];
-    let mut second = [7u32; 30];
-    let short = [0u32; 25];
+    let mut first = [0u32; WORDS];
+    let mut second = [7u32; WORDS];
+    let short = [0u32; SHORT];
     fill(&mut first, 64, 65, 66);
     let b = within(codes::start(), &mut first, &mut second);
     fill(&mut first, 64, 65, 66);
