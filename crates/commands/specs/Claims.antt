@@ -6,7 +6,8 @@ use Rattle.lists.specs.{Account.Account, Account.len, Account.idx, Account.outL
 use Rattle.lists.specs.{Contract.account, Contract.outcomeOf, Contract.Meets, declared.Buffer.Buffer, declared.Reply.Reply}
 use Rattle.edits.specs.{Flags.Searches, Groups.EveryEntry}
 use Rattle.commands.specs.{Origins.FromPushes, Runs.Steps, declared.Step.Step, Texts.layoutRecord, Texts.examText, Texts.deskText, Table.Starred}
-use Rattle.commands.specs.Calls.{Worded, perform, run, Form, unknown, operands, glyphAnd, listed, unreadable, got, words, operand, formOf, readUpTo, runBytes}
+use Rattle.commands.specs.Calls.{Worded, perform, run, Form, unknown, operands, glyphAnd, listed, unreadable, got, words, operand, formOf}
+use Rattle.commands.specs.Calls.{readUpTo, runBytes}
 
 -- ---- another glyph number for each: in an outcome, in a call, in bytes. The types leave no number out: a call over H has none of G
 module _ {G H : Type 0} (f : G → H) where

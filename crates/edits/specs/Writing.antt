@@ -8,7 +8,8 @@ use Rattle.edits.specs.Merging.{merge, clustersMerge}
 module _ {G : Type 0} where
   unfoldable pub written : List (Glyph G) → Account G → Account G  -- these glyphs behind *done*
   written l a = record { done = a .done ++ l; passed = a .passed; rest = a .rest; state = a .state }
-  -- "Copies are of its first", with its origin ("Copies and replacements take the origin of the glyph they copy.", document 02, N8), and of "the last done glyph" where *rest* is empty
+  -- "Copies are of its first", and of "the last done glyph" where *rest* is empty. "Copies and replacements take the origin of the glyph they copy."
+  -- (document 02, N8): it is one of these words
   unfoldable pub model : Account G → Info
   model a = getD (infos (a .rest) ++ reverse (infos (a .done))) 0 (blank 0)
   -- "size `out_len` + glyphs written; if it gives up, nothing else happens": b is the account where n glyphs fit

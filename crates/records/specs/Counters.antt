@@ -22,13 +22,16 @@ freshLimits = record { allocated = 0; «max_len» = 1073741823; «max_ops» = 53
 unfoldable pub costs : ℕ → Limits → Limits
 costs n l =
     let ops = wrappingSub (l .«max_ops») n in
-    record { allocated = l .allocated; «max_len» = l .«max_len»; «max_ops» = ops; successful = l .successful && not (isNegative ops); serial = l .serial; pushes = l .pushes }
+    let ok = l .successful && not (isNegative ops) in
+    record { allocated = l .allocated; «max_len» = l .«max_len»; «max_ops» = ops; successful = ok; serial = l .serial; pushes = l .pushes }
 -- "gives up (`successful` false)"
 unfoldable pub failed : Limits → Limits
 failed l = record { allocated = l .allocated; «max_len» = l .«max_len»; «max_ops» = l .«max_ops»; successful = false; serial = l .serial; pushes = l .pushes }
 -- "nothing if n ≤ allocated", and "else allocated becomes n"
 unfoldable pub grown : ℕ → Limits → Limits
-grown n l = record { allocated = max n (l .allocated); «max_len» = l .«max_len»; «max_ops» = l .«max_ops»; successful = l .successful; serial = l .serial; pushes = l .pushes }
+grown n l =
+    let size = max n (l .allocated) in
+    record { allocated = size; «max_len» = l .«max_len»; «max_ops» = l .«max_ops»; successful = l .successful; serial = l .serial; pushes = l .pushes }
 unfoldable pub limited : (most ops : ℕ) → Limits → Limits  -- another `max_len` and `max_ops`, and `serial` 0
 limited most ops l = record { allocated = l .allocated; «max_len» = most; «max_ops» = ops; successful = l .successful; serial = 0; pushes = l .pushes }
 -- "`enter`: `max_len` = max(256 × len, 65,536); `max_ops` = max(4,096 × len, 65,536), kept if the product exceeds 2^31 − 1; `serial` 0."
@@ -38,7 +41,8 @@ afterEnter len l = limited (max (256 * len) 65536) (cond (leb (4096 * len) 21474
 unfoldable pub afterLeave : Limits → Limits
 afterLeave l = limited (freshLimits .«max_len») (freshLimits .«max_ops») l
 unfoldable pub withSerial : ℕ → Limits → Limits
-withSerial s l = record { allocated = l .allocated; «max_len» = l .«max_len»; «max_ops» = l .«max_ops»; successful = l .successful; serial = s; pushes = l .pushes }
+withSerial s l =
+    record { allocated = l .allocated; «max_len» = l .«max_len»; «max_ops» = l .«max_ops»; successful = l .successful; serial = s; pushes = l .pushes }
 -- "`next_serial` skips 0."
 unfoldable pub nextSerial : ℕ → ℕ
 nextSerial s = let t = suc s % 256 in cond (eqb t 0) 1 t
@@ -50,5 +54,5 @@ unfoldable pub nextPush : Limits → ℕ  -- the number of the next one
 nextPush l = cond (eqb (l .pushes) 4294967295) 0 (suc (l .pushes))
 unfoldable pub counted : Limits → Limits  -- one more
 counted l =
-    record { allocated = l .allocated; «max_len» = l .«max_len»; «max_ops» = l .«max_ops»; successful = l .successful; serial = l .serial;
-      pushes = min (suc (l .pushes)) 4294967295 }
+    let n = min (suc (l .pushes)) 4294967295 in
+    record { allocated = l .allocated; «max_len» = l .«max_len»; «max_ops» = l .«max_ops»; successful = l .successful; serial = l .serial; pushes = n }
