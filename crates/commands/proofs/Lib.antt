@@ -8,6 +8,7 @@ pub mod Writes
 pub mod Decimals
 pub mod LineLaws
 pub mod LineExamples
+pub mod OriginExamples
 pub mod Readings
 pub mod CallLaws
 pub mod StepLaws

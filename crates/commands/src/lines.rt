@@ -1,13 +1,14 @@
 // The printed lines, written into a lent slice at a place. Each function gives the place after what it wrote.
 ghost use mathlib.Core.Path.{_≡_};
 ghost use mathlib.Core.Bool.{cond};
+ghost use mathlib.Core.List.{[], _∷_, map};
 ghost use Prim.Native.Nat.{_+_, _≤_};
 ghost use lib.ListN.{length};
 ghost use lib.Dec.{leb};
 ghost use Rattle.records.specs.Answers.{said};
 ghost use Rattle.records.specs.View.{seen};
 ghost use Rattle.lists.specs.Account.{spoiledPhase};
-ghost use Rattle.commands.specs.{Lines.answerLine, inner.Writes.endLineOf, Lines.glyphLine, Lines.positionLine, Lines.sumLine, Texts.Wrote, Texts.Prints, Texts.longest};
+ghost use Rattle.commands.specs.{Lines.answerLine, inner.Writes.endLineOf, Lines.decimal, Lines.ending, Lines.glyphLine, Lines.positionLine, Lines.sumLine, Texts.Wrote, Texts.Prints, Texts.longest};
 use super::Totals;
 use super::digits;
 use super::words;
@@ -42,6 +43,18 @@ fn put_answer(out: &mut [u8], at: usize, byte: u8, answer: Answer) -> usize
     }
 }
 
+// The variables and the origin of a glyph, and the end of its line.
+fn put_variables(out: &mut [u8], at: usize, g: GlyphInfo) -> usize
+    requires { ⌜ at + 34 ≤ length (now out) ⌝ }
+    ensures { λ r. ⌜ Wrote (ending (map decimal (g .var0 ∷ g .var1 ∷ g .origin ∷ []))) (now (out .entry)) at r (now (out .exit)) ⌝ }
+    ensures { λ r. ⌜ r ≤ at + 34 ⌝ }
+{
+    let k = words::put_word(out, at, g.var0);
+    let k = words::put_word(out, k, g.var1);
+    let k = words::put_word(out, k, g.origin);
+    digits::put(out, k, b'\n')
+}
+
 fn put_glyph(out: &mut [u8], at: usize, kind: u8, g: GlyphInfo) -> usize
     requires { ⌜ at + longest ≤ length (now out) ⌝ }
     ensures { λ r. ⌜ Wrote (glyphLine kind (seen g)) (now (out .entry)) at r (now (out .exit)) ⌝ }
@@ -51,10 +64,7 @@ fn put_glyph(out: &mut [u8], at: usize, kind: u8, g: GlyphInfo) -> usize
     let k = words::put_word(out, k, g.glyph);
     let k = words::put_word(out, k, g.cluster);
     let k = words::put_word(out, k, g.mask);
-    let k = words::put_word(out, k, g.var0);
-    let k = words::put_word(out, k, g.var1);
-    let k = words::put_word(out, k, g.origin);
-    digits::put(out, k, b'\n')
+    put_variables(out, k, g)
 }
 
 fn put_position(out: &mut [u8], at: usize, p: Position) -> usize

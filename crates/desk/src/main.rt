@@ -1,6 +1,6 @@
 // The desk program: commands from standard input as the exam program takes them, the answer to each, and then the layout
 // record of the screen: "lengths, clusters, flags and counters, with the glyph column removed". It allocates nothing; what it
-// holds, about 660 KiB, stands on its stack.
+// holds, about 676 KiB, stands on its stack.
 ghost use mathlib.Core.Path.{_≡_};
 ghost use lib.ListN.{length};
 ghost use Rattle.records.specs.Counters.{wordsFor};

@@ -4,7 +4,7 @@ use Rattle.commands.proofs.calls.output_info.Statement.{statement}
 use Rattle.commands.proofs.calls.output_info.Tie as tie
 
 returns : tie.Need-returns
-returns c = info-call _ _ _ _ _ _ (search)
+returns c = info-call _ _ _ _ _ 0 (search)
 
 pub output-info-spec : {M : Type 1} → statement M
 output-info-spec =

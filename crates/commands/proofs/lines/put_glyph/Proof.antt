@@ -7,11 +7,10 @@ use Rattle.commands.proofs.lines.put_glyph.Tie as tie
 
 returns : tie.Need-returns
 unfolding ending
-returns c = (search (glyph-written, writing) depth 10, omega arith)
+returns c = (search (glyph-written, writing) depth 9, omega arith)
 
 pub put-glyph-spec : {M : Type 1} → statement M
 put-glyph-spec =
     tie.close
     (tie.spec (λ c κs. search needs) (λ c κs. search needs) (λ c κs. search needs)
-    (λ c κs. search needs) (λ c κs. search needs) (λ c κs. search needs) (λ c κs. search needs)
-    (λ c κs. search needs) (λ c. search needs) returns)
+    (λ c κs. search needs) (λ c κs. search needs) (λ c. search needs) returns)
