@@ -2,6 +2,7 @@
 use borrow.Author.Needs.{needs}
 use borrow.Author.Tests.{eq-eqb}
 use mathlib.Core.{Path.refl, Path.ap, Path._∙_}
+use Rattle.records.specs.Counters.{wordsFor}
 use Rattle.lists.proofs.{Chains.At, Chains.answers, Chains.leaves}
 use Rattle.try_edits.specs.Codes.{codeOf}
 use Rattle.try_edits.proofs.Run.{zeros, a₁, a₂, a₃, a₄, a₅, at-start, few-code, past-code, full-code, over-code, none-code}
@@ -9,11 +10,11 @@ use Rattle.try_edits.proofs.expected.Statement.{statement}
 use Rattle.try_edits.proofs.expected.Tie as tie
 
 opened : (c : tie.After-clear-output) → At 3 a₁ (c .clear-output .result .buffer) zeros zeros
-unfolding a₁
+unfolding a₁ wordsFor
 opened c = leaves (c .clear-output .ensures) (at-start (c .before .before .before .start .ensures)) refl
 
 few : (c : tie.After-replace-glyphs) → At 3 a₂ (c .replace-glyphs .result .buffer) (c .replace-glyphs .last .1 .0) (c .replace-glyphs .last .1 .1 .0)
-unfolding a₂
+unfolding a₂ wordsFor
 few c = leaves (c .replace-glyphs .ensures) (opened (search)) (c .replace-glyphs .kept .1 .0)
 
 past : (c : tie.After-merge-clusters) → At 3 a₃ (c .merge-clusters .result .buffer) (c .merge-clusters .last .1 .0) (c .merge-clusters .last .1 .1 .0)
@@ -29,6 +30,7 @@ unfolding a₅
 over c = leaves (c .output-glyph .ensures) (full (search)) (c .output-glyph .kept .1 .0)
 
 expect-requires : tie.Need-expect-requires
+unfolding wordsFor
 expect-requires c κs =
     let at-call = c .before .before .before in
     eq-eqb (c .code .result) 6 (c .code .ensures ∙ ap codeOf (answers (at-call .replace-glyphs .ensures) (opened (search))) ∙ few-code)

@@ -2,6 +2,7 @@
 use borrow.Author.Needs.{needs}
 use borrow.Author.Tests.{eq-eqb}
 use mathlib.Core.{Path.refl, Path.ap, Path._∙_}
+use Rattle.records.specs.Counters.{wordsFor}
 use Rattle.lists.proofs.{Chains.At, Chains.answers, Chains.leaves}
 use Rattle.try_lists.specs.Codes.{codeOf}
 use Rattle.try_lists.proofs.Run.{zeros, a₁, a₂, a₃, a₄, a₅, at-start, far-code, there-code, back-code, synced-code, again-code}
@@ -9,11 +10,11 @@ use Rattle.try_lists.proofs.expected.Statement.{statement}
 use Rattle.try_lists.proofs.expected.Tie as tie
 
 opened : (c : tie.After-clear-output) → At 6 a₁ (c .clear-output .result .buffer) zeros zeros
-unfolding a₁
+unfolding a₁ wordsFor
 opened c = leaves (c .clear-output .ensures) (at-start (c .before .before .before .start .ensures)) refl
 
 far : (c : tie.After-next-glyphs) → At 6 a₂ (c .next-glyphs .result .buffer) (c .next-glyphs .last .1 .0) (c .next-glyphs .last .1 .1 .0)
-unfolding a₂
+unfolding a₂ wordsFor
 far c = leaves (c .next-glyphs .ensures) (opened (search)) (c .next-glyphs .kept .1 .0)
 
 there : (c : tie.After-next-glyphs2) → At 6 a₃ (c .next-glyphs2 .result .buffer) (c .next-glyphs2 .last .1 .0) (c .next-glyphs2 .last .1 .1 .0)
@@ -29,6 +30,7 @@ unfolding a₅
 synced c = leaves (c .sync .ensures) (back (search)) (c .sync .kept .1 .0)
 
 expect-requires : tie.Need-expect-requires
+unfolding wordsFor
 expect-requires c κs =
     let at-call = c .before .before .before in
     eq-eqb (c .code .result) 5 (c .code .ensures ∙ ap codeOf (answers (at-call .next-glyphs .ensures) (opened (search))) ∙ far-code)
