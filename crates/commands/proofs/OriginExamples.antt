@@ -1,5 +1,5 @@
 -- Document 02's N8, one list for each point of it: the count of pushes, and the origins in the three lists.
-use mathlib.Core.{Path._≡_, Path.refl, List.List, List.[], List._∷_, List._++_, List.map, List.flatMap}
+use mathlib.Core.{Path._≡_, Path.refl, List.List, List.[], List._∷_, List.map, List.flatMap}
 use Prim.Native.Nat.{ℕ}
 use Rattle.records.specs.{Limits, Counters.wordsFor, Glyphs.Glyph}
 use Rattle.lists.specs.Account.{Account, freshAccount, limiting}

@@ -1,6 +1,6 @@
 -- What the customer's demands 2 and 3 and the course regulations claim of whole lists of calls, as types. proofs/Claims has a theorem of each, and
 -- `commands::runs::begin`, which makes the first buffer, promises them. Demand 1 is promised call by call: `Meets` (lists, Contract), `Steps` (Runs).
-use Rattle.records.specs.Library.{ℕ, zero, suc, _/_, _%_, _≤_, _<_, Option, some, List, [], _∷_, _++_, map, length, _≡_}
+use Rattle.records.specs.Library.{ℕ, zero, suc, _/_, _%_, _≤_, _<_, some, List, [], _∷_, _++_, map, length, _≡_}
 use Rattle.records.specs.{Bytes.word, Glyphs.Glyph}
 use Rattle.lists.specs.{Account.Account, Account.len, Account.idx, Account.outLen, Account.positions, Account.freshAccount, Account.renamed, Account.Outcome}
 use Rattle.lists.specs.{Contract.account, Contract.outcomeOf, Contract.Meets, declared.Buffer.Buffer, declared.Reply.Reply}

@@ -1,5 +1,5 @@
 -- Where glyphs came from (document 02, N8): origins and the count of pushes, after every call of a list from fresh.
-use Rattle.records.specs.Library.{ℕ, suc, _≤_, min, Bool, cond, not, _&&_, Option, none, some, List, [], _∷_, _≡_}
+use Rattle.records.specs.Library.{ℕ, suc, _≤_, min, cond, not, _&&_, Option, none, some, List, [], _∷_, _≡_}
 use Rattle.records.specs.{Glyphs.Glyph, Ranges.is}
 use Rattle.lists.specs.{Account.Account, Account.len, Account.Outcome, Contract.isNo}
 use Rattle.commands.specs.Calls.{Call, Worded, commandByte}

@@ -1,7 +1,6 @@
 -- What a buffer shows, one thing after the other: where each thing lies, and how many there are.
 use mathlib.Core.{Path._≡_, Path.refl, Path.sym, Path.ap, Path._∙_, Bool.Bool, Bool.true, Bool.false, Bool.cond, Bool.false≢true, List.List, List.[], List._∷_, List._++_, List.map}
-use Prim.Native.Nat.{ℕ, zero, suc, _+_, _-_, _^_, _≤_, _<_}
-use native.Mathlib.Nat.{le-of-suc-le-suc, not-suc-le-zero}
+use Prim.Native.Nat.{ℕ, zero, _+_, _-_, _^_, _≤_, _<_}
 use native.Mathlib.Omega.{arith}
 use lib.{ListN.length, ListN.getD, ListN.take, ListN.length-map, ListN.length-append, ListN.List·getD-append, ListN.List·getD-eq-default, Seq.slice, Seq.getD-take, Seq.getD-drop, Seq.getD-append-add, Seq.length-take-le}
 use Rattle.records.specs.{Phase, Plain, Output, Positions, Spoiled, Position, Glyphs.Glyph, Glyphs.zeroPosition, View.glyphs, View.positionsIn, View.paired, View.seen, View.stored, inner.Stores.zeroGlyph}
@@ -15,18 +14,14 @@ use Rattle.lists.proofs.Accounts.{positions-of, length-shown, out-of, r
 use Rattle.lists.proofs.SoundLaws.{held-first, sound-held, is-sound, is-unsound, soundness}
 use Rattle.lists.proofs.Calls.{account-first, account-second}
 use Rattle.lists.proofs.Outputs.{gone-without}
+use Rattle.records.proofs.Made.{map-at}
 use Rattle.lists.proofs.Simple.{input-of, on-account}
 
 -- ---- lists one after the other, each of its own kind
 module _ {A B : Type 0} (f : A → B) where
-  map-at : (l : List A) (k : ℕ) (d : A) (z : B) → k < length l → getD (map f l) k z ≡ f (getD l k d)
-  map-at [] k d z h = absurd (not-suc-le-zero h)
-  map-at (x ∷ l) zero d z h = refl
-  map-at (x ∷ l) (suc k) d z h = map-at l k d z (le-of-suc-le-suc h)
-
   module _ (l : List A) (m : List B) (k : ℕ) (z : B) where
     map-within : (d : A) → k < length l → getD (map f l ++ m) k z ≡ f (getD l k d)
-    map-within d h = let e : length (map f l) ≡ length l = length-map l f in List·getD-append (map f l) m z k (omega arith) ∙ map-at l k d z h
+    map-within d h = let e : length (map f l) ≡ length l = length-map l f in List·getD-append (map f l) m z k (omega arith) ∙ map-at f l k d z h
 
     map-past : (n : ℕ) → length l ≡ n → getD (map f l ++ m) (n + k) z ≡ getD m k z
     map-past n e = ap (λ (i : ℕ). getD (map f l ++ m) (i + k) z) (sym (length-map l f ∙ e)) ∙ getD-append-add (map f l) m k z

@@ -10,10 +10,10 @@ use Rattle.records.proofs.Places.{length-rows, getD-rows, put-rows, put
 
 -- ---- any map on a list
 module _ {A B : Type 0} (f : A → B) where
-  getD-of-map : (l : List A) (i : ℕ) (a : A) (b : B) → i < length l → getD (map f l) i b ≡ f (getD l i a)
-  getD-of-map [] i a b h = absurd (not-suc-le-zero h)
-  getD-of-map (x ∷ l) zero a b h = refl
-  getD-of-map (x ∷ l) (suc i) a b h = getD-of-map l i a b (le-of-suc-le-suc h)
+  pub map-at : (l : List A) (i : ℕ) (a : A) (b : B) → i < length l → getD (map f l) i b ≡ f (getD l i a)
+  map-at [] i a b h = absurd (not-suc-le-zero h)
+  map-at (x ∷ l) zero a b h = refl
+  map-at (x ∷ l) (suc i) a b h = map-at l i a b (le-of-suc-le-suc h)
 
   map-set : (l : List A) (i : ℕ) (x : A) → map f (set l i x) ≡ set (map f l) i (f x)
   map-set [] i x = refl
@@ -23,7 +23,7 @@ module _ {A B : Type 0} (f : A → B) where
 -- ---- what six words make
 module _ {A : Type 0} (mk : ℕ → ℕ → ℕ → ℕ → ℕ → ℕ → A) where
   pub getD-made : (ws : List ℕ) (i : ℕ) (z : A) → i < capacityOf (length ws) → getD (map (made mk) (rows ws)) i z ≡ made mk (row ws i)
-  getD-made ws i z h = getD-of-map (made mk) (rows ws) i [] z (rw (length-rows ws) h) ∙ ap (made mk) (getD-rows ws i h)
+  getD-made ws i z h = map-at (made mk) (rows ws) i [] z (rw (length-rows ws) h) ∙ ap (made mk) (getD-rows ws i h)
 
   pub put-made : {ws ws′ : List ℕ} {c i v : ℕ} → Put ws ws′ c i v → map (made mk) (rows ws′) ≡ set (map (made mk) (rows ws)) i (made mk (set (row ws i) c v))
   put-made {ws} {ws′} {c} {i} {v} p = ap (map (made mk)) (put-rows p) ∙ map-set (made mk) (rows ws) i (set (row ws i) c v)

@@ -1,5 +1,5 @@
 -- The part of a slice that is lent for so many glyphs.
-use mathlib.Core.{Path._≡_, Path.sym, Path._∙_, List.List}
+use mathlib.Core.{Path._≡_, Path.sym, List.List}
 use Prim.Native.Nat.{ℕ, _≤_, _<_, _^_}
 use native.Mathlib.Omega.{arith}
 use lib.{ListN.length, ListN.take, Seq.length-take-le}
