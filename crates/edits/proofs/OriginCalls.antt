@@ -1,7 +1,8 @@
 -- The calls of this crate leave the count of pushes, and each origin within it: flags, merging, deletion and writing.
-use mathlib.Core.{Path._≡_, Path.refl, Bool.Bool, Bool.true, Bool.false, Bool.cond, Option.Option, List.List}
+use mathlib.Core.{Bool.Bool, Option.Option, List.List}
 use Prim.Native.Nat.{ℕ, zero, suc, _≤_, zero-le}
-use Rattle.records.specs.{DonePlace, InputPlace, Glyphs.Glyph, Glyphs.Info, Glyphs.withMask, Glyphs.withCluster, Glyphs.withOrigin, Glyphs.setCluster, Glyphs.flagged, Glyphs.flaggedUnless, Ranges.infos}
+use Rattle.records.specs.{DonePlace, InputPlace, Glyphs.Glyph, Glyphs.Info, Glyphs.withOrigin, Glyphs.flagged, Ranges.infos}
+use Rattle.records.proofs.Apart.{origin-mask, origin-cluster, origin-set, origin-flagged, origin-unless}
 use Rattle.records.proofs.Renaming.{append-map, flip-map}
 use Rattle.lists.specs.{Account.Account, Account.withGone}
 use Rattle.lists.proofs.OriginLaws as lists
@@ -11,33 +12,7 @@ use Rattle.edits.specs.Merging.{merged, merge, mergedOut, mergeOut, merg
 use Rattle.edits.specs.Deleting.{inherited, mergedForward, deleted, deleteGlyph, kept, deletedEach, keptRun, deleteGlyphsInplace}
 use Rattle.edits.specs.Flags.{interior, flagInterior, flagOutInterior, flagAll, flagOutAll, plainForm, outbufferForm}
 
--- ---- other words of a glyph, with its origin
-module _ (i : Info) where
-  pub same-cond : (b : Bool) (x y : Info) → x .origin ≡ i .origin → y .origin ≡ i .origin → (cond b x y) .origin ≡ i .origin
-  same-cond true x y p q = p
-  same-cond false x y p q = q
-
-  pub same-mask : (m : ℕ) → (withMask m i) .origin ≡ i .origin
-  unfolding withMask
-  same-mask m = refl
-
-  pub same-cluster : (c : ℕ) → (withCluster c i) .origin ≡ i .origin
-  unfolding withCluster
-  same-cluster c = refl
-
-  pub same-merged : (c m : ℕ) → (setCluster c m i) .origin ≡ i .origin
-  unfolding setCluster withCluster withMask
-  same-merged c m = search same-cond
-
-  pub same-flagged : (bits : ℕ) → (flagged bits i) .origin ≡ i .origin
-  unfolding flagged withMask
-  same-flagged bits = refl
-
-  pub same-unless : (c bits : ℕ) → (flaggedUnless c bits i) .origin ≡ i .origin
-  unfolding flaggedUnless flagged withMask
-  same-unless c bits = search same-cond
-
-pub ruleset drawing = (lists.drawing, same-mask, same-cluster, same-merged, same-flagged, same-unless)
+pub ruleset drawing = (lists.drawing, origin-mask, origin-cluster, origin-set, origin-flagged, origin-unless)
 
 module _ {G : Type 0} {n : ℕ} where
   -- ---- flags

@@ -5,11 +5,12 @@ use native.Mathlib.Omega.{arith}
 use lib.{Dec.eqb, ListN.length-append}
 use borrow.Author.Tests.{eqb-false}
 use Rattle.records.specs.{InputPlace, Refusal, Limits, Counters.nextPush, Counters.counted, Counters.grown, Glyphs.Glyph, Glyphs.Info, Glyphs.change, Glyphs.withMask, Glyphs.withCluster, Glyphs.withPosition, Glyphs.withOrigin, Glyphs.blank, Ranges.copies, Ranges.infos, Ranges.is}
+use Rattle.records.proofs.Apart.{origin-cond}
 use Rattle.lists.specs.{Account.Account, Account.len, Account.withLimits, Account.limiting, Account.sized, Account.failing, Account.withRest, Account.Result, Account.refused, Account.accepted, Account.refuse_when_else_, Account.needing}
 use Rattle.lists.proofs.OriginLaws.{Within, none, more, Drawn, Leaves, within-larger, within-append, within-copies, drawn-failing, drawn-rest, drawn-cond}
 use Rattle.edits.specs.WholeRun.{push, setLength, place, setPosition, setMasks, masked, reverseRun, reverseRange, numbered, resetClusters, rotated, inserted, sorted, sort}
 use Rattle.edits.specs.Groups.{groupSizes, continues, regrouped, mergedEach, propagated, reverseClusters, reverseGraphemes, formClusters, propagateFlags}
-use Rattle.edits.proofs.OriginCalls.{drawing, same-cond, drawn-merge}
+use Rattle.edits.proofs.OriginCalls.{drawing, drawn-merge}
 
 module _ (i : Info) where
   same-position : (xa ya xo yo : ℕ) → (setPosition xa ya xo yo i) .origin ≡ i .origin
@@ -18,7 +19,7 @@ module _ (i : Info) where
 
   same-masked : (value mask start stop : ℕ) → (masked value mask start stop i) .origin ≡ i .origin
   unfolding masked withMask
-  same-masked value mask start stop = search same-cond
+  same-masked value mask start stop = search origin-cond
 
 module _ {G : Type 0} {n : ℕ} where
   -- ---- lists

@@ -1,4 +1,4 @@
--- Changes of the words that keep the position, and those that keep a key.
+-- Changes of the words that keep the position, those that keep a key, and those that keep the origin.
 use mathlib.Core.{Path._≡_, Path.refl, Path.ap, Bool.Bool, Bool.true, Bool.false, Bool.cond, List.List, List.[], List._∷_, List.map}
 use Prim.Native.Nat.{ℕ, zero, suc, _+_, _*_, _/_, _%_, _≤_, zero-le}
 use native.Mathlib.Nat.{le-of-suc-le-suc, not-suc-le-zero}
@@ -92,3 +92,29 @@ module _ (slot mask : ℕ) where
       pick : (b : Bool) → key slot mask (cond b i (flagged bits i)) ≡ key slot mask i
       pick true = refl
       pick false = refl
+
+-- ---- the changes that leave the origin alone
+module _ (i : Info) where
+  pub origin-cond : (b : Bool) (x y : Info) → x .origin ≡ i .origin → y .origin ≡ i .origin → (cond b x y) .origin ≡ i .origin
+  origin-cond true x y p q = p
+  origin-cond false x y p q = q
+
+  pub origin-mask : (m : ℕ) → (withMask m i) .origin ≡ i .origin
+  unfolding withMask
+  origin-mask m = refl
+
+  pub origin-cluster : (c : ℕ) → (withCluster c i) .origin ≡ i .origin
+  unfolding withCluster
+  origin-cluster c = refl
+
+  pub origin-set : (c m : ℕ) → (setCluster c m i) .origin ≡ i .origin
+  unfolding setCluster withCluster withMask
+  origin-set c m = search origin-cond
+
+  pub origin-flagged : (bits : ℕ) → (flagged bits i) .origin ≡ i .origin
+  unfolding flagged withMask
+  origin-flagged bits = refl
+
+  pub origin-unless : (c bits : ℕ) → (flaggedUnless c bits i) .origin ≡ i .origin
+  unfolding flaggedUnless flagged withMask
+  origin-unless c bits = search origin-cond
