@@ -1,4 +1,7 @@
 // Loads over the calls, for Rust to link and to measure: each a function with its loop inside.
+
+#![tactic(auto)]
+
 pub mod deleting;
 pub mod filling;
 pub mod flagging;

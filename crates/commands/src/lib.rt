@@ -1,5 +1,8 @@
 // Commands of the shaping buffer: the reader of bytes, the step and the run, and the printed lines and texts. The account of calls,
 // lists of calls and bytes stands in specs/, with what demand 3 says of them.
+
+#![tactic(auto)]
+
 use lists::Reply;
 
 mod calls;
@@ -18,7 +21,7 @@ mod words;
 
 // A command as it was read: its byte, its first five operands (0 where it has fewer), where glyph numbers of its own
 // start, and where the next command does.
-#[derive(Drop)]
+#[derive(Clone, Copy)]
 pub struct Order {
     pub byte: u8,
     pub a: u32,
@@ -31,14 +34,14 @@ pub struct Order {
 }
 
 // What is read at a place.
-#[derive(Drop)]
+#[derive(Clone, Copy)]
 pub enum Reading {
     Command(Order),
     Unreadable,
 }
 
 // What was read, and the place after it.
-#[derive(Drop)]
+#[derive(Clone, Copy)]
 pub struct Taken {
     pub reading: Reading,
     pub next: usize,
@@ -52,7 +55,7 @@ pub struct Script<'a> {
 }
 
 // What follows a command byte: so many operands; or two, and as many glyph numbers as the second says.
-#[derive(Drop)]
+#[derive(Clone, Copy)]
 pub enum Operands {
     Words(usize),
     Listed,
@@ -60,14 +63,14 @@ pub enum Operands {
 }
 
 // What a step gives back: the call's reply, and where the next command starts.
-#[derive(Drop)]
+#[derive(Clone, Copy)]
 pub struct Step {
     pub reply: Reply,
     pub next: usize,
 }
 
 // What a run gives back: the last command's reply, and how many commands there were.
-#[derive(Drop)]
+#[derive(Clone, Copy)]
 pub struct Ran {
     pub reply: Reply,
     pub commands: usize,
@@ -75,7 +78,7 @@ pub struct Ran {
 
 // What playing a part of a string gives back: the last command's reply, where the next command starts, how many bytes of
 // lines were written, and how many commands there were.
-#[derive(Drop)]
+#[derive(Clone, Copy)]
 pub struct Played {
     pub reply: Reply,
     pub next: usize,
@@ -84,7 +87,7 @@ pub struct Played {
 }
 
 // What a reader takes from the line of a glyph. Kind 0 stands for any other line.
-#[derive(Drop)]
+#[derive(Clone, Copy)]
 pub struct Entry {
     pub kind: u8,
     pub cluster: u32,
@@ -92,7 +95,7 @@ pub struct Entry {
 }
 
 // The numbers of the line `sum`: glyph lines, groups of equal cluster, glyph lines with mask bit 0.
-#[derive(Drop)]
+#[derive(Clone, Copy)]
 pub struct Totals {
     pub lines: usize,
     pub groups: usize,

@@ -8,7 +8,7 @@ use super::{columns, digits, reports};
 use lists::Buffer;
 
 // A part of a line that stands in a room.
-#[derive(Drop)]
+#[derive(Clone, Copy)]
 struct Part {
     from: usize,
     to: usize,

@@ -1,6 +1,9 @@
 // The desk program: commands from standard input as the exam program takes them, the answer to each, and then the layout
 // record of the screen: "lengths, clusters, flags and counters, with the glyph column removed". It allocates nothing; what it
 // holds, about 676 KiB, stands on its stack.
+
+#![tactic(auto)]
+
 ghost use Rattle.std.specs.Prelude.{◌≡◌, length};
 ghost use Rattle.records.specs.Counters.{words_for};
 ghost use Rattle.commands.specs.inner.Programs.{Holds};

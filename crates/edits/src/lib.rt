@@ -1,4 +1,7 @@
 // Edits of the shaping buffer. The account of writing, merging, deleting, flags and the whole run stands in specs/.
+
+#![tactic(auto)]
+
 use records::{DonePlace, InputPlace, Limits};
 
 mod bounds;
@@ -28,7 +31,7 @@ pub mod writing;
 
 // What a merge of a range changes: m, the cluster of the range's first glyph, the range as it grew, and whether the
 // equal tail of the output goes with it.
-#[derive(Drop)]
+#[derive(Clone, Copy)]
 pub struct Merge {
     pub lowest: u32,
     pub leader: u32,
@@ -39,7 +42,7 @@ pub struct Merge {
 
 // What a merge in the output changes: m, the cluster of the range's last glyph, the range as it grew, and whether the
 // equal head of the input goes with it.
-#[derive(Drop)]
+#[derive(Clone, Copy)]
 pub struct OutMerge {
     pub lowest: u32,
     pub closer: u32,
@@ -49,21 +52,21 @@ pub struct OutMerge {
 }
 
 // What a deletion in place leaves: how many glyphs, and what of the limits.
-#[derive(Drop)]
+#[derive(Clone, Copy)]
 pub struct Kept {
     pub len: usize,
     pub limits: Limits,
 }
 
 // A bound of a flag form in the input.
-#[derive(Drop)]
+#[derive(Clone, Copy)]
 pub enum InputBound {
     Open,
     At(InputPlace),
 }
 
 // A bound of a flag form in *done*.
-#[derive(Drop)]
+#[derive(Clone, Copy)]
 pub enum DoneBound {
     Open,
     At(DonePlace),

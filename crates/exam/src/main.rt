@@ -1,6 +1,9 @@
 // The exam program: commands from standard input on a buffer of 2,048 glyphs, level and wants 0. Prints the answer to
 // each, then what the buffer shows, then its totals. At most 262,144 bytes are taken; of a longer input nothing is run, and
 // a line says so. It allocates nothing; what it holds, about 676 KiB, stands on its stack.
+
+#![tactic(auto)]
+
 ghost use Rattle.std.specs.Prelude.{◌≡◌, length};
 ghost use Rattle.records.specs.Counters.{words_for};
 ghost use Rattle.commands.specs.Lines.{report};

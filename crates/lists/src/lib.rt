@@ -1,4 +1,7 @@
 // Lists of the shaping buffer: its state, the moves between the two lent slices, and the cursor's calls.
+
+#![tactic(auto)]
+
 use records::{Answer, DonePlace, GlyphInfo, InputPlace, Limits, Phase, Position};
 
 pub mod cursor;
@@ -22,7 +25,7 @@ pub mod verdicts;
 
 // The state of a buffer, beside the two slices that are lent to every call. specs/Contract.antt says which account it is.
 // The fields stand so that no gap between them has three or more odd bytes: LLVM copies such a gap through memory.
-#[derive(Drop)]
+#[derive(Clone, Copy)]
 pub struct Buffer {
     pub idx: InputPlace,
     pub len: InputPlace,
@@ -39,7 +42,7 @@ pub struct Buffer {
 }
 
 // What a call gives back.
-#[derive(Drop)]
+#[derive(Clone, Copy)]
 pub struct Reply {
     pub buffer: Buffer,
     pub answer: Answer,
@@ -47,7 +50,7 @@ pub struct Reply {
 
 // What a call comes to, before a word is written: the places and limits that it leaves, whether its output moves to the slice that does not
 // hold the run, whether glyphs are written for it, and its answer.
-#[derive(Drop)]
+#[derive(Clone, Copy)]
 pub struct Verdict {
     pub idx: usize,
     pub len: usize,
@@ -59,7 +62,7 @@ pub struct Verdict {
 }
 
 // Whether a needed size is there.
-#[derive(Drop)]
+#[derive(Clone, Copy)]
 pub enum Room {
     Fits,
     GivesUp,
@@ -67,7 +70,7 @@ pub enum Room {
 }
 
 // One of the things that a buffer shows: a glyph of a list, or a position.
-#[derive(Drop)]
+#[derive(Clone, Copy)]
 pub enum Item {
     OfDone(GlyphInfo),
     OfPassed(GlyphInfo),

@@ -1,5 +1,8 @@
 // What the programs share. They read, call and write: every text that they write is made by a function of commands, and
 // said by its contract. That its bytes go to standard output, once each and in order, is no part of a promise.
+
+#![tactic(auto)]
+
 ghost use Rattle.std.specs.Prelude.{◌≡◌, ◌≤◌, length, ltb};
 ghost use Rattle.records.specs.Counters.{words_for};
 ghost use Rattle.commands.specs.Texts.{longest};

@@ -1,6 +1,8 @@
 // Records of the shaping buffer: the words of glyphs and positions, and the counters that no list shows.
 // Nobody above this crate knows where a word lies.
 
+#![tactic(auto)]
+
 // Below the calls, for the crates above: functions that ask for something, or speak of words and counters and not of an account.
 pub mod bytes;
 pub mod counters;
@@ -9,7 +11,7 @@ pub mod positions;
 pub mod words;
 
 // The phase of a buffer. In phase Output some of the input has become output.
-#[derive(Drop)]
+#[derive(Clone, Copy)]
 pub enum Phase {
     Plain,
     Output,
@@ -18,15 +20,15 @@ pub enum Phase {
 }
 
 // A place in *done*, the output written so far.
-#[derive(Drop)]
+#[derive(Clone, Copy)]
 pub struct DonePlace(pub usize);
 
 // A place in the input. It never stands for a place in *done*.
-#[derive(Drop)]
+#[derive(Clone, Copy)]
 pub struct InputPlace(pub usize);
 
 // A glyph: six words.
-#[derive(Drop)]
+#[derive(Clone, Copy)]
 pub struct GlyphInfo {
     pub glyph: u32,
     pub mask: u32,
@@ -38,7 +40,7 @@ pub struct GlyphInfo {
 }
 
 // A position: six words, the first four of them signed, the last free.
-#[derive(Drop)]
+#[derive(Clone, Copy)]
 pub struct Position {
     pub x_advance: u32,
     pub y_advance: u32,
@@ -49,7 +51,7 @@ pub struct Position {
 }
 
 // The counters that no list shows. max_ops is signed, and held as its word.
-#[derive(Drop)]
+#[derive(Clone, Copy)]
 pub struct Limits {
     pub allocated: usize,
     pub max_len: usize,
@@ -61,7 +63,7 @@ pub struct Limits {
 }
 
 // Why a call is turned back. specs/Answers.antt has the number of each.
-#[derive(Drop)]
+#[derive(Clone, Copy)]
 pub enum Refusal {
     Contradiction,
     WrongPhase,
@@ -72,7 +74,7 @@ pub enum Refusal {
 }
 
 // What a call answers. A truth is the value 1 or 0.
-#[derive(Drop)]
+#[derive(Clone, Copy)]
 pub enum Answer {
     Done,
     Value(u32),

@@ -2,6 +2,9 @@
 // harfrust printed for them; in lists that set level 3 with wants bit 2, which harfrust lacks, with what a second program did
 // (compare/README.md). A stored list is a capacity, the commands with their length before them, and the text with its length
 // before it; numbers are four bytes, low byte first. Every list starts from a fresh buffer, level and wants 0.
+
+#![tactic(auto)]
+
 ghost use Rattle.std.specs.Prelude.{◌≡◌};
 ghost use Rattle.replay.specs.Lines.{one_more};
 
@@ -14,7 +17,7 @@ mod telling;
 
 // What was counted, and what was read: its hash, and whether no more is to be read. `line` and `at` are where the
 // comparison stands in the text of a list.
-#[derive(Drop)]
+#[derive(Clone, Copy)]
 struct Tally {
     lists: u64,
     commands: u64,
@@ -27,7 +30,7 @@ struct Tally {
 }
 
 // Whether a line stands in a text, and where the next line starts.
-#[derive(Drop)]
+#[derive(Clone, Copy)]
 enum Found {
     Same(usize),
     Different,

@@ -1,5 +1,8 @@
 // Drives the calls on a lent state and the reader that keeps its bytes: a short list of commands, whose answers and
 // whose buffer at the end are printed as the exam program prints them.
+
+#![tactic(auto)]
+
 ghost use Rattle.std.specs.Prelude.{◌<◌, length};
 
 use commands::{Order, Reading};

@@ -1,4 +1,7 @@
 // Drives the calls of `edits`, and prints what each answers and leaves.
+
+#![tactic(auto)]
+
 mod codes;
 mod runs;
 mod scenarios;

@@ -9,7 +9,7 @@ use lists::{Buffer, Reply, cursor};
 use records::{DonePlace, GlyphInfo, InputPlace, Refusal};
 
 // The operands of a call.
-#[derive(Drop)]
+#[derive(Clone, Copy)]
 struct Operands {
     v: u32,
     w: u32,

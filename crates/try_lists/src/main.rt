@@ -1,4 +1,7 @@
 // Drives the calls of `lists` over a run of three glyphs, and prints what each answers and leaves.
+
+#![tactic(auto)]
+
 mod codes;
 
 use lists::{Buffer, Reply};
