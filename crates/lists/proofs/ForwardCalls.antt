@@ -15,7 +15,6 @@ use Rattle.lists.proofs.SoundLaws.{sound-held, not-overtaken}
 use Rattle.lists.proofs.SizeLaws.{fits-within}
 use Rattle.lists.proofs.SyncLaws.{NextOutput}
 use Rattle.lists.proofs.ForwardLaws as forths
-use Rattle.lists.proofs.BackLaws as backs
 use Rattle.lists.proofs.Inner.{room-is}
 use Rattle.lists.proofs.Moving.{forward-moves}
 use Rattle.lists.proofs.Decisions.{Lying, near_same, near-limits, near-placed, leaves-is, decided-accepted, decided-does, room_of}

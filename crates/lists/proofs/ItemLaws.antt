@@ -1,6 +1,6 @@
 -- What a buffer shows, one thing after the other: where each thing lies, and how many there are.
 use mathlib.Core.{Path.◌≡◌, Path.refl, Path.sym, Path.ap, Path.◌∙◌, Bool.Bool, Bool.true, Bool.false, Bool.cond, Bool.false≢true, List.List, List.[], List.◌∷◌, List.◌++◌, List.map}
-use Prim.Native.Nat.{ℕ, zero, ◌+◌, ◌-◌, ◌^◌, ◌≤◌, ◌<◌}
+use Prim.Native.Nat.{ℕ, ◌+◌, ◌-◌, ◌^◌, ◌≤◌, ◌<◌}
 use native.Mathlib.Omega.{arith}
 use lib.{ListN.length, ListN.get_or, ListN.take, ListN.length-map, ListN.length-append, ListN.get_or-append, ListN.get_or-eq_default, Seq.slice, Seq.get_or-take, Seq.get_or-drop, Seq.get_or-append-add, Seq.length-take-le}
 use Rattle.records.specs.{Phase, Plain, Output, Positions, Spoiled, Position, Glyphs.Glyph, Glyphs.zero_position, View.glyphs, View.positions_in, View.paired, View.seen, View.stored, inner.Stores.zero_glyph}

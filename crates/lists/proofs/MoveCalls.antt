@@ -11,7 +11,6 @@ use Rattle.lists.specs.inner.Moving.{Opened, Backs, MovesForward, MovesBack, Mov
 use Rattle.lists.proofs.Sides.{SyncOutput}
 use Rattle.lists.specs.inner.Verdicts.{Leaves}
 use Rattle.lists.proofs.SoundLaws.{sound-held, soundness}
-use Rattle.lists.proofs.ForwardLaws as forths
 use Rattle.lists.proofs.BackLaws as backs
 use Rattle.lists.proofs.Decisions.{Lying, near_same, near-places, decided-unsound, decided-accepted, decided-by}
 use Rattle.lists.proofs.BackCalls.{back-decided}

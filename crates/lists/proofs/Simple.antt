@@ -8,7 +8,7 @@ use Rattle.records.specs.{Phase, Plain, Output, Positions, Spoiled, Refusal, Bad
 use Rattle.records.proofs.View.{glyphs-plain, paired-plain}
 use Rattle.records.proofs.Renaming.{take-map}
 use Rattle.lists.specs.{declared.Buffer.Buffer, declared.Reply.Reply}
-use Rattle.lists.specs.Account.{Account, in_phase, with_gone, output_phase, spoiled_phase, input, len, idx, fresh_account, read_level}
+use Rattle.lists.specs.Account.{Account, in_phase, with_gone, output_phase, spoiled_phase, input, fresh_account, read_level}
 use Rattle.lists.specs.Account.{Result, Outcome, refused, accepted, outcome, refuse◌when◌else◌}
 use Rattle.lists.specs.Cursor.{fresh, dropping, cursor_at, without_positions, opened}
 use Rattle.lists.specs.{Contract.shown, Contract.gone_of, Contract.state_of, Contract.account_of, Contract.account, Contract.in_order, Contract.sound, inner.Held.Soundness, inner.Held.Held}

@@ -7,7 +7,7 @@ use Rattle.lists.specs.Account.{Account, output_phase}
 use Rattle.lists.specs.inner.Copied.{copied}
 use Rattle.lists.specs.Cursor.{move_to, forward, backward}
 use Rattle.lists.specs.Account.{Result}
-use Rattle.lists.specs.{Contract.sound, inner.Held.Held}
+use Rattle.lists.specs.{Contract.sound}
 use Rattle.lists.specs.inner.States.{with_limits_of, at_places}
 use Rattle.lists.specs.inner.Verdicts.{leaving, settled, Decided}
 

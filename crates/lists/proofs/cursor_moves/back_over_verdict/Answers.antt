@@ -1,0 +1,21 @@
+use Rattle.lists.proofs.BackCalls.{back-calls}
+use borrow.Author.Rules.{rules}
+use Rattle.lists.proofs.cursor_moves.back_over_verdict.Goals as goal
+
+pub overflow_sub-size : goal.overflow_sub-size
+overflow_sub-size c = search back-calls
+
+pub overflow_add-size : goal.overflow_add-size
+overflow_add-size c = search back-calls
+
+pub paid_shift-requires : goal.paid_shift-requires
+paid_shift-requires c = search (back-calls, rules)
+
+pub returns-in-Fits : goal.returns-in-Fits
+returns-in-Fits c = search back-calls
+
+pub returns-in-GivesUp : goal.returns-in-GivesUp
+returns-in-GivesUp c = search back-calls
+
+pub returns-in-Over : goal.returns-in-Over
+returns-in-Over c = search back-calls

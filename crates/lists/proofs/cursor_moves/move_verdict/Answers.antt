@@ -1,0 +1,17 @@
+use Rattle.lists.proofs.MoveCalls.{move-calls}
+use Rattle.lists.proofs.cursor_moves.move_verdict.Goals as goal
+
+pub returns-then-is_spoiled : goal.returns-then-is_spoiled
+returns-then-is_spoiled c = search move-calls
+
+pub move_output_verdict-requires : goal.move_output_verdict-requires
+move_output_verdict-requires c = search move-calls
+
+pub returns-then-len-i : goal.returns-then-len-i
+returns-then-len-i c = search move-calls
+
+pub returns-then-is_sound : goal.returns-then-is_sound
+returns-then-is_sound c = search move-calls
+
+pub returns : goal.returns
+returns c = search move-calls

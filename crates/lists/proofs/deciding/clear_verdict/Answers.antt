@@ -1,0 +1,14 @@
+use Rattle.lists.proofs.PhaseCalls.{phase-calls}
+use Rattle.lists.proofs.deciding.clear_verdict.Goals as goal
+
+pub returns-then-have_output : goal.returns-then-have_output
+returns-then-have_output c = search phase-calls
+
+pub returns-then-is_spoiled : goal.returns-then-is_spoiled
+returns-then-is_spoiled c = search phase-calls
+
+pub returns-then-is_sound : goal.returns-then-is_sound
+returns-then-is_sound c = search phase-calls
+
+pub returns : goal.returns
+returns c = search phase-calls

@@ -1,0 +1,14 @@
+use Rattle.lists.proofs.CursorCalls.{cursor-calls}
+use Rattle.lists.proofs.deciding.enter_verdict.Goals as goal
+
+pub returns-then-is_spoiled : goal.returns-then-is_spoiled
+returns-then-is_spoiled c = search cursor-calls
+
+pub enter-requires : goal.enter-requires
+enter-requires c = search cursor-calls
+
+pub returns-then-is_sound : goal.returns-then-is_sound
+returns-then-is_sound c = search cursor-calls
+
+pub returns : goal.returns
+returns c = search cursor-calls

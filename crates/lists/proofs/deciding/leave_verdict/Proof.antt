@@ -1,7 +1,0 @@
-use Rattle.lists.proofs.CursorCalls.{cursor-calls}
-use borrow.Author.Rules.{rules}
-use Rattle.lists.proofs.deciding.leave_verdict.Statement.{statement}
-use Rattle.lists.proofs.deciding.leave_verdict.Tie as tie
-
-pub leave-verdict-spec : {M : Type 1} → statement M
-leave-verdict-spec = tie.close (tie.spec (search rules) (search rules) (search rules) (λ c. search cursor-calls) (search rules) (search rules) (search rules) (λ c. search cursor-calls) (search rules) (λ c. search cursor-calls))

@@ -1,0 +1,26 @@
+use Rattle.lists.proofs.CursorCalls.{cursor-calls}
+use Rattle.lists.proofs.deciding.next_verdict.Goals as goal
+
+pub returns-then-is_spoiled : goal.returns-then-is_spoiled
+returns-then-is_spoiled c = search cursor-calls
+
+pub overflow_sub-b : goal.overflow_sub-b
+overflow_sub-b c = search cursor-calls
+
+pub returns-then-b-n : goal.returns-then-b-n
+returns-then-b-n c = search cursor-calls
+
+pub writes-requires : goal.writes-requires
+writes-requires c = search cursor-calls
+
+pub returns-then-have_output : goal.returns-then-have_output
+returns-then-have_output c = search cursor-calls
+
+pub passes-requires : goal.passes-requires
+passes-requires c = search cursor-calls
+
+pub returns-then-is_sound : goal.returns-then-is_sound
+returns-then-is_sound c = search cursor-calls
+
+pub returns : goal.returns
+returns c = search cursor-calls

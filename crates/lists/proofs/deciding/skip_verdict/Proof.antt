@@ -1,7 +1,0 @@
-use Rattle.lists.proofs.CursorCalls.{cursor-calls}
-use borrow.Author.Rules.{rules}
-use Rattle.lists.proofs.deciding.skip_verdict.Statement.{statement}
-use Rattle.lists.proofs.deciding.skip_verdict.Tie as tie
-
-pub skip-verdict-spec : {M : Type 1} → statement M
-skip-verdict-spec = tie.close (tie.spec (search rules) (search rules) (search rules) (λ c. search cursor-calls) (λ c. search cursor-calls) (search rules) (λ c. search cursor-calls) (λ c κs. search cursor-calls) (λ c. search cursor-calls) (search rules) (λ c. search cursor-calls))

@@ -1,0 +1,10 @@
+use Rattle.records.proofs.View.{glyphs-same}
+use Rattle.lists.proofs.Turns.{exchange-is}
+use borrow.Author.Rules.{rules}
+use Rattle.lists.proofs.reversals.swap_glyphs.Goals as goal
+
+pub put-requires-2 : goal.put-requires-2
+put-requires-2 c = search (glyphs-same, rules)
+
+pub returns : goal.returns
+returns c = search (exchange-is, rules)

@@ -1,0 +1,5 @@
+use Rattle.lists.proofs.Decisions.{settled-fields}
+use Rattle.lists.proofs.verdicts.settled.Goals as goal
+
+pub returns : goal.returns
+returns c = settled-fields _ _
