@@ -2,7 +2,7 @@
 use mathlib.Core.{Path.◌≡◌, Path.refl, Path.ap, Path.ap₂, Path.sym, Path.◌∙◌, Bool.Bool, Bool.true, Bool.false, Bool.cond, List.List, List.[], List.◌∷◌, List.map}
 use Rattle.std.proofs.Common.{ℕ, suc, ◌+◌, ◌-◌, ◌<◌, ◌≤◌, add-one, arith, eqb-true}
 use lib.{ListN.take, ListN.drop, ListN.length, ListN.get_or, ListN.length-map, ListN.length-drop, ListN.drop_of_length-le, ListN.get_or-map, Seq.slice, Seq.drop-cons, Seq.drop-drop, Seq.get_or-take, Seq.length-take-le}
-use Rattle.records.specs.{Phase, Position, Glyphs.Glyph, Glyphs.Info, Glyphs.change, Glyphs.with_position, Glyphs.blank, Glyphs.key, Ranges.infos, Ranges.clusters, Ranges.heads, Ranges.is, Ranges.isnt, View.glyphs, View.positions_in}
+use Rattle.records.specs.{Phase, Position, Glyphs.Glyph, Glyphs.Info, Glyphs.with_position, Glyphs.blank, Glyphs.key, Ranges.infos, Ranges.clusters, Ranges.heads, Ranges.is, Ranges.isnt, View.glyphs, View.positions_in}
 use Rattle.lists.specs.{Account.spoiled_phase, Contract.shown}
 use Rattle.lists.proofs.{Runs.heads-le, Infos.map-drop, Infos.words_take, Infos.clusters-infos, Accounts.length-shown}
 use Rattle.edits.specs.Groups.{joins, group_sizes, same_cluster, continues}

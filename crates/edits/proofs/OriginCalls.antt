@@ -1,7 +1,7 @@
 -- The calls of this crate leave the count of pushes, and each origin within it: flags, merging, deletion and writing.
 use mathlib.Core.{Bool.Bool, Option.Option, List.List}
 use Rattle.std.proofs.Common.{ℕ, zero, suc, ◌≤◌, zero-le}
-use Rattle.records.specs.{DonePlace, InputPlace, Glyphs.Glyph, Glyphs.Info, Glyphs.with_origin, Glyphs.flagged, Ranges.infos}
+use Rattle.records.specs.{DonePlace, InputPlace, Glyphs.Glyph, Glyphs.Info, Glyphs.with_origin, Ranges.infos}
 use Rattle.records.proofs.Apart.{origin-mask, origin-cluster, origin-set, origin-flagged, origin-unless}
 use Rattle.records.proofs.Renaming.{append-map, flip-map}
 use Rattle.lists.specs.{Account.Account, Account.with_gone}

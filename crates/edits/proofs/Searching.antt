@@ -1,6 +1,6 @@
 -- By which level clusters are sought and marked: bit 2 of wants switches level 3 to level 2's way (document 02, N11).
 use mathlib.Core.{Path.◌≡◌, Path.refl, Path.ap, Path.ap₂, Path.sym, Path.◌∙◌, Bool.Bool, Bool.true, Bool.false, Bool.cond, Bool.◌&&◌, List.List}
-use Rattle.std.proofs.Common.{ℕ, ◌-◌, ◌/◌, ◌%◌, ◌≤◌, min, arith, le-ltb, eq-eqb, eqb-true, leb-false, leb-true}
+use Rattle.std.proofs.Common.{ℕ, ◌-◌, ◌/◌, ◌%◌, min, arith, le-ltb, eq-eqb, eqb-true, leb-false, leb-true}
 use lib.{Dec.eqb, Dec.leb, Dec.ltb, ListN.take, ListN.drop, Seq.slice}
 use Rattle.records.specs.{Glyphs.Glyph, Ranges.clusters}
 use Rattle.lists.specs.declared.Buffer.{Buffer}

@@ -14,7 +14,7 @@ use Rattle.edits.specs.{Writing.written, Writing.model, Writing.writing, Writing
 use Rattle.edits.proofs.WriteForms.{Roomy, writes_one}
 use Rattle.lists.proofs.Inner.{limits-side, sized_of, held-limits, roomy-grown}
 use Rattle.lists.proofs.SoundLaws.{out-fits}
-use Rattle.lists.proofs.Outputs.{output, shown-output}
+use Rattle.lists.proofs.Outputs.{shown-output}
 use Rattle.lists.proofs.Refusing.{refusing}
 
 -- ---- other limits

@@ -1,10 +1,10 @@
 -- What the functions below the exported edits ask for and do.
-use mathlib.Core.{Path.◌≡◌, Bool.true, Bool.false, List.List, List.[], List.◌∷◌, List.◌++◌}
-use Rattle.std.specs.Prelude.{ℕ, ◌+◌, ◌≤◌}
+use mathlib.Core.{Path.◌≡◌, Bool.true, Bool.false, List.List, List.◌++◌}
+use Rattle.std.specs.Prelude.{ℕ, ◌≤◌}
 use Rattle.records.specs.{Bytes.words_of, Glyphs.Info, Ranges.copies, View.words_from}
 use Rattle.lists.specs.declared.Buffer.{Buffer}
-use Rattle.lists.specs.{Account.Account, Account.output_phase, Account.spoiled_phase, Account.out_length, Account.sized, Account.Result, Cursor.dropping, Contract.account_of, inner.Held.Held, Contract.gone_of}
-use Rattle.edits.specs.Writing.{written, writing}
+use Rattle.lists.specs.{Account.Account, Account.output_phase, Account.spoiled_phase, Cursor.dropping, Contract.account_of, inner.Held.Held, Contract.gone_of}
+use Rattle.edits.specs.Writing.{written}
 
 -- h on the account, nothing beyond the allocated size. Limits may change, the size does not
 pub record Acts (h : Account ℕ → Account ℕ) (b : Buffer) (run other : List ℕ) (r : Buffer) (run' other' : List ℕ) : Type 0 where

@@ -1,12 +1,11 @@
 -- What the functions that merge say, over the glyphs of whole slices. Places count in the slices: the account counts them from `gone` on.
 use mathlib.Core.{Path.◌≡◌, Bool.Bool, Bool.cond, Bool.◌&&◌, List.List}
 use Rattle.std.specs.Prelude.{ℕ, ◌+◌, ◌-◌, ◌<◌, ◌≤◌}
-use lib.{ListN.length, ListN.take, ListN.drop, Seq.slice}
+use lib.{ListN.length, Seq.slice}
 use Rattle.records.specs.{Glyphs.Glyph, Glyphs.set_cluster, Ranges.clusters, Ranges.edit, Ranges.is, Ranges.isnt, Ranges.least, Ranges.first_cluster, Ranges.last_cluster, Ranges.heads, Ranges.tails}
-use Rattle.lists.specs.Account.{State}
 use Rattle.edits.specs.{declared.Merge.Merge, declared.OutMerge.OutMerge}
-use Rattle.edits.specs.Merging.{merge_start, merge_end, merged, out_start, out_end, merged_out}
-use Rattle.edits.specs.inner.Holding.{holds, paid, cut}
+use Rattle.edits.specs.Merging.{merge_start, merge_end, out_start, out_end}
+use Rattle.edits.specs.inner.Holding.{cut}
 
 -- ---- a merge in the input
 -- s..e is a range of the first len glyphs, and m its least cluster

@@ -5,7 +5,7 @@ use lib.{Dec.ltb, ListN.length, ListN.get_or}
 use Rattle.records.specs.{Limits, Glyphs.Glyph, Glyphs.change, Glyphs.with_origin, Ranges.copies, View.glyphs, View.seen, inner.Stores.zero_glyph}
 use Rattle.records.specs.declared.GlyphInfo.{GlyphInfo}
 use Rattle.lists.specs.{declared.Buffer.Buffer, declared.Verdict.Verdict}
-use Rattle.lists.specs.{Account.Account, Account.read_level, inner.Copied.copied, Account.Result, inner.Held.room_for, inner.States.at_places, inner.States.apart_buffer, inner.Verdicts.by_size, inner.Verdicts.Sided, inner.Verdicts.settled, inner.Verdicts.Decided}
+use Rattle.lists.specs.{Account.Account, Account.read_level, inner.Copied.copied, Account.Result, inner.Held.room_for, inner.Verdicts.by_size, inner.Verdicts.Sided, inner.Verdicts.settled, inner.Verdicts.Decided}
 use Rattle.edits.specs.{inner.MergeActs.Merges, Merging.clusters_merge, Writing.output_info, Writing.replace_glyphs}
 
 -- whether o glyphs behind the output, in place of i of the input, would overtake the cursor: then the output moves to the other slice

@@ -1,7 +1,7 @@
 -- What the functions below the exported replacements do.
-use Rattle.std.specs.Prelude.{ℕ, ◌+◌, List, take}
-use Rattle.lists.specs.{Account.Account, Account.out_length, Account.sized, Account.Result}
-use Rattle.edits.specs.{inner.Acts.replacing, Merging.merge, Merging.clusters_merge, Writing.model, Writing.writing}
+use Rattle.std.specs.Prelude.{ℕ, List, take}
+use Rattle.lists.specs.{Account.Account}
+use Rattle.edits.specs.{inner.Acts.replacing, Merging.merge, Merging.clusters_merge, Writing.model}
 
 -- the inputs merge, then copies of the first stand in their place
 unfoldable pub replaced : ℕ → ℕ → List ℕ → Account ℕ → Account ℕ

@@ -1,0 +1,11 @@
+use Rattle.edits.proofs.FlagLaws.{flag-laws}
+use Rattle.edits.proofs.flags.marks_all.Goals as goal
+
+pub returns-then-seeks_all : goal.returns-then-seeks_all
+returns-then-seeks_all c = search flag-laws
+
+pub returns-then-first-cluster : goal.returns-then-first-cluster
+returns-then-first-cluster c = search flag-laws
+
+pub returns : goal.returns
+returns c = search flag-laws

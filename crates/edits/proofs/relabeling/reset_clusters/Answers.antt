@@ -1,0 +1,18 @@
+use Rattle.std.proofs.Common.{rules}
+use Rattle.lists.proofs.Decisions.{ending}
+use Rattle.edits.proofs.Relabelings.{relabeling}
+use Rattle.edits.proofs.WholeCalls.{whole-calls}
+use Rattle.edits.proofs.relabeling.reset_clusters.Goals as goal
+use Rattle.edits.proofs.relabeling.reset_clusters.Goals.{else-v, then-v}
+
+pub number_by-requires : goal.number_by-requires
+number_by-requires c = search whole-calls
+
+pub shape_of-first : goal.shape_of-first
+shape_of-first c = elim c.if-v.branch [ then-v w ↦ search (ending, rules) | else-v w ↦ search (ending, rules) ]
+
+pub shape_of-second : goal.shape_of-second
+shape_of-second c = elim c.if-v.branch [ then-v w ↦ search (ending, rules) | else-v w ↦ search (ending, rules) ]
+
+pub returns : goal.returns
+returns c = elim c.if-v.branch [ then-v w ↦ search (ending, relabeling) | else-v w ↦ search (ending, relabeling) ]

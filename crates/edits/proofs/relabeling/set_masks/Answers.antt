@@ -1,0 +1,18 @@
+use Rattle.std.proofs.Common.{rules}
+use Rattle.lists.proofs.Decisions.{ending}
+use Rattle.edits.proofs.Relabelings.{mask-calls}
+use Rattle.edits.proofs.WholeCalls.{serving}
+use Rattle.edits.proofs.relabeling.set_masks.Goals as goal
+use Rattle.edits.proofs.relabeling.set_masks.Goals.{else-v, then-v}
+
+pub mask_by-requires : goal.mask_by-requires
+mask_by-requires c = search mask-calls
+
+pub shape_of-first : goal.shape_of-first
+shape_of-first c = elim c.if-v.branch [ then-v w ↦ search (ending, rules) | else-v w ↦ search (ending, rules) ]
+
+pub shape_of-second : goal.shape_of-second
+shape_of-second c = elim c.if-v.branch [ then-v w ↦ search (ending, rules) | else-v w ↦ search (ending, rules) ]
+
+pub returns : goal.returns
+returns c = serving (c.masks_verdict-v.ensures.is _ _ _) (λ d. elim c.if-v.branch [ then-v w ↦ search ending | else-v w ↦ search ending ])

@@ -1,0 +1,13 @@
+use Rattle.edits.proofs.PutLaws.{put-laws}
+use Rattle.edits.proofs.Chaining.{stays-inside}
+use Rattle.std.proofs.Common.{rules}
+use Rattle.edits.proofs.replace_acts.replace.Goals as goal
+
+pub get-g-requires : goal.get-g-requires
+get-g-requires c = search stays-inside
+
+pub write_copies-requires : goal.write_copies-requires
+write_copies-requires c = search (put-laws, rules)
+
+pub returns : goal.returns
+returns c = search put-laws

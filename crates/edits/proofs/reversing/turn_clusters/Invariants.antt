@@ -1,0 +1,10 @@
+use Rattle.std.proofs.Common.{◌-◌}
+use Rattle.edits.specs.Groups.{same_cluster}
+use Rattle.edits.proofs.GroupTurns.{GroupTurning}
+use Rattle.edits.proofs.reversing.turn_clusters.Given as goal
+
+abbrev pub invariant-loop-i : goal.invariant-loop-i
+invariant-loop-i l = GroupTurning same_cluster l.phase l.n l.initial.run l.initial.other l.run l.other l.i
+
+abbrev pub decreases-loop-i : goal.decreases-loop-i
+decreases-loop-i l = l.n - l.i
