@@ -2,7 +2,7 @@
 use mathlib.Core.{Path.◌≡◌, Path.refl, List.List, List.[], List.◌∷◌, List.map, List.flat_map}
 use Prim.Native.Nat.{ℕ}
 use Rattle.records.specs.{Limits, Counters.words_for, Glyphs.Glyph}
-use Rattle.lists.specs.Account.{Account, fresh_account, limiting}
+use Rattle.lists.specs.Account.{fresh_account, limiting}
 use Rattle.commands.specs.{Calls.run_bytes, Table.sheet}
 use Rattle.commands.proofs.Examples.{left_by}
 use Rattle.commands.proofs.Executable.{executable}

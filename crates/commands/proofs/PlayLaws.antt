@@ -5,7 +5,7 @@ use native.Mathlib.Omega.{arith}
 use lib.{ListN.length, ListN.get_or, ListN.drop, ListN.length-drop}
 use Rattle.records.specs.{Answers.said}
 use Rattle.lists.specs.{declared.Buffer.Buffer}
-use Rattle.lists.specs.{Contract.account, Contract.sound, inner.States.reply, Contract.outcome_of}
+use Rattle.lists.specs.{Contract.account, Contract.sound, Contract.outcome_of}
 use Rattle.commands.specs.Calls.{Call, Worded}
 use Rattle.commands.specs.Calls.{Read, unreadable, got, mapped, words, operand, Form, unknown, operands, glyph_and, listed, forms, read_form, read_up_to, run_read}
 use Rattle.commands.specs.Calls.{form_of}

@@ -1,6 +1,6 @@
 -- What the functions' contracts come to for a whole program: the answers, then the report or the record.
 use mathlib.Core.{Path.◌≡◌, Path.refl, Path.ap, Path.ap₂, Path.sym, Path.◌∙◌, Bool.true, List.List, List.[], List.◌∷◌, List.◌++◌, List.append_assoc, List.flat_map}
-use Prim.Native.Nat.{ℕ, ◌+◌, ◌*◌, ◌≤◌}
+use Prim.Native.Nat.{ℕ, ◌*◌, ◌≤◌}
 use native.Mathlib.Omega.{arith}
 use lib.{ListN.length, ListN.take, ListN.drop, ListN.take-append-drop, ListN.drop_of_length-le, Seq.sets, Seq.length-sets}
 use Rattle.records.specs.{Answers.ok, Counters.words_for, View.glyphs}

@@ -5,7 +5,7 @@ use native.Mathlib.Omega.{arith}
 use lib.{ListN.length, ListN.drop, ListN.drop_of_length-le}
 use Rattle.records.specs.{Unreadable as Unread}
 use Rattle.lists.specs.{declared.Buffer.Buffer}
-use Rattle.lists.specs.{Account.Account, Account.Outcome, Account.refused, Account.outcome, Contract.account, Contract.sound, inner.States.reply, Contract.outcome_of}
+use Rattle.lists.specs.{Account.Account, Account.Outcome, Account.refused, Account.outcome, Contract.account, Contract.sound, Contract.outcome_of}
 use Rattle.commands.specs.Calls.{Worded, step}
 use Rattle.commands.specs.Calls.{Read, unreadable, got, read_up_to, run_read, run_bytes}
 use Rattle.commands.specs.{Calls.front, Calls.behind, Runs.called, Runs.stepped, Runs.Steps}

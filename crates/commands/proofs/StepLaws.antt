@@ -15,7 +15,6 @@ use Rattle.commands.specs.Calls.{Read, unreadable, got}
 use Rattle.commands.specs.Reading.{worded_of, reading_of, Reads}
 use Rattle.commands.specs.{Calls.front, Calls.behind, Runs.called, Runs.stepped, Runs.Steps}
 use Rattle.commands.specs.{declared.Order.Order, declared.Reading.Reading, declared.Reading.TheVariants.Command, declared.Reading.TheVariants.Unreadable}
-use Rattle.commands.proofs.Readings.{next}
 
 -- ---- calls
 -- the numbers of 0E, as bytes of the string

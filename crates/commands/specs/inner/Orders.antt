@@ -1,11 +1,11 @@
 -- What functions below the reader make: orders of operands that stand in a string.
 use mathlib.Core.{Path.◌≡◌, List.List}
-use Rattle.std.specs.Prelude.{ℕ, ◌+◌, ◌*◌, ◌≤◌, ◌<◌}
-use lib.{ListN.get_or, ListN.drop, ListN.length}
+use Rattle.std.specs.Prelude.{ℕ, ◌+◌, ◌*◌}
+use lib.{ListN.get_or, ListN.drop}
 use Rattle.records.specs.Bytes.{words_at}
 use Rattle.commands.specs.Calls.{read_form}
 use Rattle.commands.specs.{Calls.form_of, Reading.reading_of, Reading.IsOrdered}
-use Rattle.commands.specs.{declared.Order.Order, declared.Reading.Reading, declared.Reading.TheVariants.Command, declared.Reading.TheVariants.Unreadable}
+use Rattle.commands.specs.{declared.Order.Order, declared.Reading.Reading}
 
 -- operand i of n, which stand from a place on; 0 where there are fewer
 abbrev pub operand_at : List ℕ → (from n i : ℕ) → ℕ

@@ -1,0 +1,13 @@
+use Rattle.records.proofs.Tests.{tested}
+use borrow.Author.Tests.{leb-true}
+use Rattle.commands.proofs.Writes.{printed, unprinted}
+use Rattle.commands.proofs.lines.position_line.Goals as goal
+
+pub put_position-requires : goal.put_position-requires
+put_position-requires c = search (leb-true, tested)
+
+pub returns-then-has_room : goal.returns-then-has_room
+returns-then-has_room c = search (printed, tested)
+
+pub returns : goal.returns
+returns c = search (unprinted, tested)
