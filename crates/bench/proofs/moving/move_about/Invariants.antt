@@ -1,0 +1,11 @@
+use mathlib.Core.Path.{◌≡◌}
+use Prim.Native.Nat.{◌-◌, ◌≤◌}
+use lib.ListN.{length}
+use borrow.Author.Rules.{rules}
+use Rattle.bench.proofs.moving.move_about.Given as goal
+
+abbrev pub invariant-loop-k : goal.invariant-loop-k
+invariant-loop-k l = (length l.first ≡ length l.initial.first) × (length l.second ≡ length l.initial.second) × (1 ≤ l.k)
+
+abbrev pub decreases-loop-k : goal.decreases-loop-k
+decreases-loop-k l = l.k-end - l.k

@@ -1,0 +1,6 @@
+use Rattle.commands.proofs.ProgramLaws.{runs-fresh}
+use borrow.Author.Rules.{rules}
+use Rattle.printing.proofs.play_fresh.Goals as goal
+
+pub returns : goal.returns
+returns c = search (runs-fresh, rules)

@@ -1,0 +1,8 @@
+use Rattle.std.proofs.Common.{◌-◌, length, arith, rules}
+use Rattle.replay.proofs.comparing.line_end.Given as goal
+
+abbrev pub invariant-loop-i : goal.invariant-loop-i
+invariant-loop-i l = Unit {0}
+
+abbrev pub decreases-loop-i : goal.decreases-loop-i
+decreases-loop-i l = length l.text - l.i

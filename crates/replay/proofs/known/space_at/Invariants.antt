@@ -1,0 +1,10 @@
+-- Bytes before i are passed.
+use Rattle.std.proofs.Common.{◌-◌, length, arith, rules}
+use Rattle.replay.proofs.KnownLaws.{Seeking, seek-none, seek_found, seek-space, seek-other, seek-end}
+use Rattle.replay.proofs.known.space_at.Given as goal
+
+abbrev pub invariant-loop-i : goal.invariant-loop-i
+invariant-loop-i l = Seeking l.n l.line l.left l.i
+
+abbrev pub decreases-loop-i : goal.decreases-loop-i
+decreases-loop-i l = length l.line - l.i

@@ -1,0 +1,6 @@
+-- The slices keep their lengths.
+use Rattle.std.proofs.Common.{◌≡◌, ◌-◌, ◌≤◌, length, refl, arith, rules}
+use Rattle.replay.proofs.playing.all.Goals as goal
+
+pub loop-init : goal.loop-init
+loop-init c = (omega arith, refl, refl, refl, refl)

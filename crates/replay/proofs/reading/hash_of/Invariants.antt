@@ -1,0 +1,8 @@
+use Rattle.std.proofs.Common.{◌-◌, length, arith, rules}
+use Rattle.replay.proofs.reading.hash_of.Given as goal
+
+abbrev pub invariant-loop-i : goal.invariant-loop-i
+invariant-loop-i l = Unit {0}
+
+abbrev pub decreases-loop-i : goal.decreases-loop-i
+decreases-loop-i l = length l.bytes - l.i
