@@ -1,7 +1,5 @@
 -- The commands of the parts before the last place are done.
-use Prim.Native.Nat.{◌-◌}
-use lib.ListN.{length}
-use Rattle.printing.proofs.Parts.{Parted, parted-none, parted-fits, parted-less, parted-more, parted-all, parted-first, parted-second, parted-out}
+use Rattle.printing.proofs.Parts.{parted-none, parted-fits, parted-less, parted-more, parted-all, parted-first, parted-second, parted-out}
 use borrow.Author.Rules.{rules}
 use Rattle.printing.proofs.play.Goals as goal
 

@@ -1,8 +1,7 @@
 -- The commands of the parts before the last place are done.
 use Prim.Native.Nat.{◌-◌}
 use lib.ListN.{length}
-use Rattle.printing.proofs.Parts.{Parted, parted-none, parted-fits, parted-less, parted-more, parted-all, parted-first, parted-second, parted-out}
-use borrow.Author.Rules.{rules}
+use Rattle.printing.proofs.Parts.{Parted}
 use Rattle.printing.proofs.play.Given as goal
 
 abbrev pub invariant-loop-last : goal.invariant-loop-last

@@ -17,4 +17,4 @@ returns-in-Value c = search rules
 
 pub returns-in-No : goal.returns-in-No
 unfolding code_of
-returns-in-No c = rw (c.refusal_number.ensures, c.a-in-No-1.given.1)
+returns-in-No c = rw (c.refusal_number.ensures, c.in-No.is)

@@ -1,6 +1,5 @@
 use Rattle.try_lists.specs.Codes.{started}
 use Rattle.records.specs.Counters.{fresh_limits}
-use borrow.Author.Rules.{rules}
 use Rattle.try_lists.proofs.codes.start.Goals as goal
 
 pub returns : goal.returns
