@@ -1,4 +1,1 @@
-pub mod Loans
 pub mod Onward
-pub mod Readers
-pub mod Replies

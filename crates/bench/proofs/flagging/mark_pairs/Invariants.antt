@@ -1,7 +1,6 @@
 use mathlib.Core.Path.{◌≡◌}
 use Prim.Native.Nat.{◌-◌}
 use lib.ListN.{length}
-use borrow.Author.Rules.{rules}
 use Rattle.bench.proofs.flagging.mark_pairs.Given as goal
 
 abbrev pub invariant-loop-i : goal.invariant-loop-i

@@ -1,5 +1,4 @@
 use Rattle.replay.proofs.KnownLaws.{prefix-length, checked-none, checked-some}
-use Rattle.std.proofs.Common.{rules}
 use Rattle.replay.proofs.comparing.check.Goals as goal
 
 pub returns-then-n-eq0 : goal.returns-then-n-eq0

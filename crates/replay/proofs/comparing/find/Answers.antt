@@ -1,10 +1,10 @@
 -- The bytes before place i are the same.
-use Rattle.std.proofs.Common.{◌≡◌, ◌+◌, ◌-◌, ◌≤◌, length, take, drop, refl, arith, rules}
+use Rattle.std.proofs.Common.{refl, arith, rules}
 use Rattle.replay.proofs.Bytes.{same_more, same_byte, same_whole}
 use Rattle.replay.proofs.comparing.find.Goals as goal
 
 pub returns-then-text-at : goal.returns-then-text-at
-returns-then-text-at c = omega (arith, stands.0, c.if-text-at.true)
+returns-then-text-at c stands = omega (arith, stands.0, c.if-text-at.true)
 
 pub overflow_sub-text : goal.overflow_sub-text
 overflow_sub-text c = omega arith
@@ -16,9 +16,7 @@ pub overflow_add-at : goal.overflow_add-at
 overflow_add-at c = omega arith
 
 pub returns-then-line-i : goal.returns-then-line-i
-returns-then-line-i c = let a = c.args in
-    let loop = c.loop-i in
-    c.if-line-i.true (same_byte a.line.now a.text.now a.at loop.i c.loop-i-test.true stands.1)
+returns-then-line-i c stands = c.if-line-i.true (same_byte c.args.line.now c.args.text.now c.args.at c.loop-i.i c.loop-i-test.true stands.1)
 
 pub overflow_add-i : goal.overflow_add-i
 overflow_add-i c = omega arith

@@ -1,6 +1,5 @@
 -- The bytes before place i are the same.
-use Rattle.std.proofs.Common.{◌≡◌, ◌+◌, ◌-◌, ◌≤◌, length, take, drop, refl, arith, rules}
-use Rattle.replay.proofs.Bytes.{same_more, same_byte, same_whole}
+use Rattle.std.proofs.Common.{◌≡◌, ◌+◌, ◌-◌, ◌≤◌, length, take, drop}
 use Rattle.replay.proofs.comparing.find.Given as goal
 
 abbrev pub invariant-loop-i : goal.invariant-loop-i

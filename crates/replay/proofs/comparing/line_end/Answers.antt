@@ -1,4 +1,4 @@
-use Rattle.std.proofs.Common.{◌-◌, length, arith, rules}
+use Rattle.std.proofs.Common.{arith}
 use Rattle.replay.proofs.comparing.line_end.Goals as goal
 
 pub loop-i-init : goal.loop-i-init

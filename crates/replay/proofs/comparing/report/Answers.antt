@@ -1,4 +1,4 @@
-use Rattle.std.proofs.Common.{◌-◌, arith, rules}
+use Rattle.std.proofs.Common.{arith}
 use Rattle.replay.proofs.comparing.report.Goals as goal
 
 pub loop-k-init : goal.loop-k-init

@@ -1,5 +1,4 @@
 use Rattle.replay.proofs.KnownLaws.{known-empty, known-sum, known-other}
-use Rattle.std.proofs.Common.{rules}
 use Rattle.replay.proofs.known.known.Goals as goal
 
 pub returns-then-line-eq0 : goal.returns-then-line-eq0

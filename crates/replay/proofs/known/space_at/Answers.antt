@@ -1,6 +1,6 @@
 -- Bytes before i are passed.
-use Rattle.std.proofs.Common.{◌-◌, length, arith, rules}
-use Rattle.replay.proofs.KnownLaws.{Seeking, seek-none, seek_found, seek-space, seek-other, seek-end}
+use Rattle.std.proofs.Common.{arith}
+use Rattle.replay.proofs.KnownLaws.{seek-none, seek_found, seek-space, seek-other, seek-end}
 use Rattle.replay.proofs.known.space_at.Goals as goal
 
 pub loop-i-init : goal.loop-i-init

@@ -1,6 +1,6 @@
 -- Bytes before i are passed.
-use Rattle.std.proofs.Common.{◌-◌, length, arith, rules}
-use Rattle.replay.proofs.KnownLaws.{Seeking, seek-none, seek_found, seek-space, seek-other, seek-end}
+use Rattle.std.proofs.Common.{◌-◌, length}
+use Rattle.replay.proofs.KnownLaws.{Seeking}
 use Rattle.replay.proofs.known.space_at.Given as goal
 
 abbrev pub invariant-loop-i : goal.invariant-loop-i

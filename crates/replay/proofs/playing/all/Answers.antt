@@ -1,5 +1,5 @@
 -- The slices keep their lengths.
-use Rattle.std.proofs.Common.{◌≡◌, ◌-◌, ◌≤◌, length, refl, arith, rules}
+use Rattle.std.proofs.Common.{refl, arith}
 use Rattle.replay.proofs.playing.all.Goals as goal
 
 pub loop-init : goal.loop-init

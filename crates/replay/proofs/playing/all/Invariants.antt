@@ -1,5 +1,5 @@
 -- The slices keep their lengths.
-use Rattle.std.proofs.Common.{◌≡◌, ◌-◌, ◌≤◌, length, refl, arith, rules}
+use Rattle.std.proofs.Common.{◌≡◌, ◌-◌, ◌≤◌, length}
 use Rattle.replay.proofs.playing.all.Given as goal
 
 abbrev pub invariant-loop : goal.invariant-loop

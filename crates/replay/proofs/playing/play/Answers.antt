@@ -1,5 +1,5 @@
 -- Every command goes on in the string, and the slices keep their lengths.
-use Rattle.std.proofs.Common.{◌≡◌, ◌-◌, length, refl, arith, rules}
+use Rattle.std.proofs.Common.{refl}
 use Rattle.commands.proofs.RunLaws.{running-less}
 use Rattle.replay.proofs.playing.play.Goals as goal
 

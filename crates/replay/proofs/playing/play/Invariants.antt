@@ -1,6 +1,5 @@
 -- Every command goes on in the string, and the slices keep their lengths.
-use Rattle.std.proofs.Common.{◌≡◌, ◌-◌, length, refl, arith, rules}
-use Rattle.commands.proofs.RunLaws.{running-less}
+use Rattle.std.proofs.Common.{◌≡◌, ◌-◌, length}
 use Rattle.replay.proofs.playing.play.Given as goal
 
 abbrev pub invariant-loop-last : goal.invariant-loop-last

@@ -1,4 +1,4 @@
-use Rattle.std.proofs.Common.{◌-◌, length, arith, rules}
+use Rattle.std.proofs.Common.{arith}
 use Rattle.replay.proofs.reading.hash_of.Goals as goal
 
 pub loop-i-init : goal.loop-i-init
