@@ -31,6 +31,13 @@ def resolved(call, crate, module, known):
     return '::'.join(known.get(parts[0], [crate, parts[0]] if len(parts) == 2 else [parts[0]]) + parts[1:])
 
 
+def brought(line):
+    """The paths that a `use` names: `a::{b, c::d}` has a::b and a::c::d."""
+    start, brace, inside = line.partition('{')
+    parts = [part for part in start.strip().split('::') if part]
+    return [parts + use.strip().split('::') for use in inside.rstrip('} \n').split(',') if use.strip()] if brace else [parts]
+
+
 def functions(root):
     """The functions of the exported calls' crates, by name."""
     found = {}
@@ -38,7 +45,10 @@ def functions(root):
     for path in paths:
         crate, module = path.split(os.sep)[-3], os.path.basename(path)[:-3]
         text = open(path).read()
-        known = {use.split('::')[-1]: [crate if part == 'super' else part for part in use.split('::')] for use in re.findall(rf'^use ({PATH});', text, re.M)}
+        known = {}
+        for line in re.findall(r'^use ([^;]+);', text, re.M):
+            for use in brought(line):
+                known[use[-1]] = [crate if part == 'super' else part for part in use]
         for head, name, body in re.findall(r'^((?:pub(?:\(crate\))? )?fn (\w+)\(.*?)\{\n(.*?)^\}', text, re.M | re.S):
             full = f'{crate}::{module}::{name}'
             found[full] = Function(full, head, body, known)

@@ -1,7 +1,8 @@
 -- The printed lines, as bytes: the one place that says how a line looks.
 -- "Lines: command, `ok` or `no` number, returned value if any (1 is true); `end` len, idx, out_len, max_ops, successful; then done `o`, passed `p`,
 -- input `i`: glyph, cluster, mask, var0, var1; positions `x`, five words."
-use Rattle.records.specs.Library.{ℕ, zero, suc, ◌+◌, ◌-◌, ◌/◌, ◌%◌, Bool, cond, ltb, List, [], ◌∷◌, ◌++◌, map, flat_map, get_or}
+use Rattle.std.specs.Prelude.{◌+◌, ◌-◌, ◌/◌, ◌%◌, ◌∷◌, ◌++◌}
+use Rattle.records.specs.Library.{ℕ, zero, suc, Bool, cond, ltb, List, [], map, flat_map, get_or}
 use Rattle.records.specs.{Position, Answers.Said, Answers.ok, Answers.ok_with, Answers.no, Counters.is_negative, Glyphs.Glyph, View.seen}
 use Rattle.lists.specs.{Account.Account, Account.len, Account.idx, Account.out_length, Contract.account, Contract.sound, Contract.items, declared.Buffer.Buffer}
 use Rattle.lists.specs.{declared.Item.Item, declared.Item.TheVariants.OfDone, declared.Item.TheVariants.OfPassed, declared.Item.TheVariants.OfRest}

@@ -1,5 +1,6 @@
 -- What an answer of the reader stands for: what the account reads from the same bytes.
-use Rattle.records.specs.Library.{ℕ, suc, ◌+◌, ◌*◌, ◌≤◌, ◌<◌, List, [], ◌∷◌, length, take, drop, get_or, ◌≡◌}
+use Rattle.std.specs.Prelude.{◌+◌, ◌*◌, ◌≤◌, ◌<◌, ◌∷◌, ◌≡◌}
+use Rattle.records.specs.Library.{ℕ, suc, List, [], length, take, drop, get_or}
 use Rattle.records.specs.Bytes.{words_at}
 use Rattle.commands.specs.{declared.Order.Order, declared.Reading.Reading, declared.Reading.TheVariants.Command}
 use Rattle.commands.specs.{declared.Reading.TheVariants.Unreadable, declared.Operands.Operands, declared.Operands.TheVariants.Words}

@@ -1,5 +1,6 @@
 -- One command of a string on a buffer, refusals "6, 1, 2, 3, 4, 5"; and all of them. (commands/src/lib.rt has `Step` and `Ran`: a reply and a number.)
-use Rattle.records.specs.Library.{ℕ, ◌≤◌, ◌<◌, Bool, true, cond, ◌&&◌, leb, List, [], ◌∷◌, length, drop, ◌≡◌}
+use Rattle.std.specs.Prelude.{◌≤◌, ◌<◌, ◌&&◌, ◌∷◌, ◌≡◌}
+use Rattle.records.specs.Library.{ℕ, Bool, true, cond, leb, List, [], length, drop}
 use Rattle.records.specs.{Contradiction, Unreadable, Answers.said, Answers.ok}
 use Rattle.lists.specs.{Account.Account, Account.Outcome, Account.refused, Account.outcome, Contract.account, Contract.sound, Contract.outcome_of, Contract.is_no}
 use Rattle.lists.specs.{Contract.LeavesAlone, declared.Buffer.Buffer}

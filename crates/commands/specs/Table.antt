@@ -1,6 +1,7 @@
 -- Document 01's starred examples, "proved together as one table". A glyph line ends with its origin, and a report with the line `sum` (document 02).
+use Rattle.std.specs.Prelude.{◌∷◌, ◌++◌, ◌≡◌}
 use Prim.Native.{Char.code, String.String, String.[] as ended, String.◌∷◌ as ◌then◌}
-use Rattle.records.specs.Library.{ℕ, List, [], ◌∷◌, ◌++◌, map, flat_map, replicate, ◌≡◌}
+use Rattle.records.specs.Library.{ℕ, List, [], map, flat_map, replicate}
 use Rattle.records.specs.{Answers.Said, Answers.ok, Answers.ok_with, Counters.words_for}
 use Rattle.lists.specs.Account.{fresh_account, Outcome}
 use Rattle.commands.specs.{Calls.Call, Calls.run, Calls.c02-set-length, Calls.c24-enter, Calls.c26-allocate-lig-id, Runs.last_of, Texts.last_account}

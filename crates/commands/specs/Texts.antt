@@ -1,5 +1,6 @@
 -- What programs print, whole, as bytes: the answers, then the report of exam or the record of desk.
-use Rattle.records.specs.Library.{ℕ, zero, suc, ◌+◌, ◌≤◌, ◌<◌, cond, eqb, List, [], ◌∷◌, ◌++◌, flat_map, length, take, drop, sets, ◌≡◌}
+use Rattle.std.specs.Prelude.{◌+◌, ◌≤◌, ◌<◌, ◌∷◌, ◌++◌, ◌≡◌}
+use Rattle.records.specs.Library.{ℕ, zero, suc, cond, eqb, List, [], flat_map, length, take, drop, sets}
 use Rattle.records.specs.{Answers.ok, Counters.words_for}
 use Rattle.lists.specs.{Account.Account, Account.fresh_account, Account.Outcome, Contract.account, Contract.outcome_of, Contract.LeavesAlone}
 use Rattle.lists.specs.{declared.Buffer.Buffer}

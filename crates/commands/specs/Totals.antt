@@ -1,7 +1,8 @@
 -- "Totals under the record", as a reader counts them from printed lines (document 02, N1). (commands/src/lib.rt has `Entry` and `Totals`.)
 -- "Print a line `sum` as the last line of all: glyph lines, neighbouring groups of equal cluster within one list, and glyph lines with mask bit 0.
 -- Each number equals what a reader counts from the lines above it. A spoiled buffer prints three zeros."
-use Rattle.records.specs.Library.{ℕ, ◌+◌, ◌-◌, ◌*◌, ◌%◌, Bool, cond, ◌&&◌, ◌||◌, eqb, List, [], ◌∷◌, map, get_or}
+use Rattle.std.specs.Prelude.{◌+◌, ◌-◌, ◌*◌, ◌%◌, ◌&&◌, ◌||◌, ◌∷◌}
+use Rattle.records.specs.Library.{ℕ, Bool, cond, eqb, List, [], map, get_or}
 use Rattle.commands.specs.{declared.Entry.Entry, declared.Totals.Totals}
 
 -- ---- a printed line as its reader takes it apart, in bytes: 32 is a space, 10 the line feed, 48 the digit 0, 111 `o`, 112 `p`, 105 `i`

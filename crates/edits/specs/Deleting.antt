@@ -1,5 +1,6 @@
 -- Deletion: calls 0F and 21.
-use Rattle.records.specs.Library.{ℕ, zero, suc, ◌+◌, ◌-◌, Bool, cond, not, ◌&&◌, ◌||◌, ltb, List, [], ◌++◌, length, take, drop, get_or}
+use Rattle.std.specs.Prelude.{◌+◌, ◌-◌, ◌&&◌, ◌||◌, ◌++◌}
+use Rattle.records.specs.Library.{ℕ, zero, suc, Bool, cond, not, ltb, List, [], length, take, drop, get_or}
 use Rattle.records.specs.{WrongPhase, OutOfRange, BadOperand, Glyphs.Info, Glyphs.blank, Glyphs.set_cluster, Glyphs.key, Ranges.infos, Ranges.clusters}
 use Rattle.records.specs.{Ranges.edit, Ranges.is, Ranges.first_cluster, Ranges.last_cluster, Ranges.tails}
 use Rattle.lists.specs.{Account.Account, Account.with_gone, Account.has_output, Account.with_done, Account.Result, Account.accepted, Account.refuse◌when◌else◌}

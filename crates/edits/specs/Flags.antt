@@ -1,6 +1,7 @@
 -- Flags: calls 15 to 19.
-use Rattle.records.specs.Library.{ℕ, ◌+◌, ◌-◌, ◌/◌, ◌%◌, ◌≤◌, min, Bool, false, cond, not, ◌&&◌, ◌||◌, ltb, Option, none, some, List, take, drop}
-use Rattle.records.specs.Library.{slice, ◌≡◌}
+use Rattle.std.specs.Prelude.{◌+◌, ◌-◌, ◌/◌, ◌%◌, ◌≤◌, ◌&&◌, ◌||◌, ◌≡◌}
+use Rattle.records.specs.Library.{ℕ, min, Bool, false, cond, not, ltb, Option, none, some, List, take, drop}
+use Rattle.records.specs.Library.{slice}
 use Rattle.records.specs.{DonePlace, InputPlace, WrongPhase, OutOfRange, Glyphs.Glyph, Glyphs.flagged, Glyphs.flagged_unless, Ranges.clusters, Ranges.edit}
 use Rattle.records.specs.{Ranges.is, Ranges.isnt, Ranges.least, Ranges.first_cluster, Ranges.last_cluster, Ranges.heads, Ranges.tails}
 use Rattle.lists.specs.Account.{Account, has_output, is_spoiled, input, len, idx, out_length, with_input, with_done, Result, accepted, refuse◌when◌else◌}

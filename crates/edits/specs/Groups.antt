@@ -1,6 +1,7 @@
 -- Groups of neighbours in the whole run: calls 1D, 1E, 22, 23.
-use Rattle.records.specs.Library.{ℕ, suc, ◌+◌, ◌*◌, ◌%◌, ◌<◌, Bool, true, false, cond, leb, ltb, bit_and, bit_or, List, [], ◌∷◌, ◌++◌, length, take, drop, get_or}
-use Rattle.records.specs.Library.{slice, ◌≡◌}
+use Rattle.std.specs.Prelude.{◌+◌, ◌*◌, ◌%◌, ◌<◌, ◌∷◌, ◌++◌, ◌≡◌}
+use Rattle.records.specs.Library.{ℕ, suc, Bool, true, false, cond, leb, ltb, bit_and, bit_or, List, [], length, take, drop, get_or}
+use Rattle.records.specs.Library.{slice}
 use Rattle.records.specs.{WrongPhase, BadOperand, Glyphs.Glyph, Glyphs.Info, Glyphs.with_mask, Glyphs.key, Ranges.infos, Ranges.edit, Ranges.is, Ranges.isnt}
 use Rattle.lists.specs.Account.{Account, with_rest, Result, accepted, refuse◌when◌else◌}
 use Rattle.edits.specs.{WholeRun.not_whole, Merging.merge, Merging.graphemes_merge, Flags.wants_concat, Flags.wants_tatweel}

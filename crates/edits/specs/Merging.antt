@@ -1,5 +1,6 @@
 -- Merging: calls 11 to 14.
-use Rattle.records.specs.Library.{ℕ, ◌+◌, ◌-◌, Bool, cond, not, ◌&&◌, ◌||◌, leb, ltb, List, length, take, drop, slice}
+use Rattle.std.specs.Prelude.{◌+◌, ◌-◌, ◌&&◌, ◌||◌}
+use Rattle.records.specs.Library.{ℕ, Bool, cond, not, leb, ltb, List, length, take, drop, slice}
 use Rattle.records.specs.{DonePlace, InputPlace, WrongPhase, OutOfRange, Glyphs.set_cluster, Ranges.clusters, Ranges.edit, Ranges.is, Ranges.isnt, Ranges.least}
 use Rattle.records.specs.{Ranges.first_cluster, Ranges.last_cluster, Ranges.heads, Ranges.tails}
 use Rattle.lists.specs.Account.{Account, has_output, is_spoiled, input, len, out_length, paying, with_input, with_done, Result, accepted, refuse◌when◌else◌}

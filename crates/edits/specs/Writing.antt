@@ -1,5 +1,6 @@
 -- Writing: calls 0A to 0E.
-use Rattle.records.specs.Library.{ℕ, ◌+◌, max, cond, not, eqb, ltb, List, [], ◌∷◌, ◌++◌, reverse, length, take, get_or}
+use Rattle.std.specs.Prelude.{◌+◌, ◌∷◌, ◌++◌}
+use Rattle.records.specs.Library.{ℕ, max, cond, not, eqb, ltb, List, [], reverse, length, take, get_or}
 use Rattle.records.specs.{WrongPhase, OutOfRange, BadOperand, Glyphs.Glyph, Glyphs.Info, Glyphs.with_origin, Glyphs.blank, Ranges.infos, Ranges.copies}
 use Rattle.lists.specs.{Account.Account, Account.has_output, Account.out_length, Account.sized, Account.failing, Account.Result, Account.accepted}
 use Rattle.lists.specs.{Account.refuse◌when◌else◌, Account.needing, Cursor.dropping}

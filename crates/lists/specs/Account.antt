@@ -1,5 +1,6 @@
 -- The account of a buffer: three lists of glyphs, at whose numbers no definition made for every G can look (records, Glyphs), and what no list shows.
-use Rattle.records.specs.Library.{ℕ, ◌+◌, Bool, true, false, cond, leb, ltb, List, [], ◌++◌, map, length, take, drop}
+use Rattle.std.specs.Prelude.{◌+◌, ◌++◌}
+use Rattle.records.specs.Library.{ℕ, Bool, true, false, cond, leb, ltb, List, [], map, length, take, drop}
 use Rattle.records.specs.{Phase, Plain, Output, Positions, Spoiled, Position, Limits, Glyphs.Glyph, Glyphs.rename, Counters.fresh_limits, Counters.costs}
 use Rattle.records.specs.{Counters.failed, Counters.grown, Refusal, OverCapacity, Answers.Said, Answers.ok, Answers.ok_with, Answers.no, Answers.refusal_number}
 

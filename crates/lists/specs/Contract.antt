@@ -1,5 +1,6 @@
 -- How a state and the two lent slices show an account, and what every exported call promises. (lists/src/lib.rt has `Buffer`, `Reply` and `Item`.)
-use Rattle.records.specs.Library.{ℕ, Bool, true, false, cond, not, ◌&&◌, ◌||◌, eqb, leb, List, [], ◌++◌, map, length, take, slice, ◌≡◌}
+use Rattle.std.specs.Prelude.{◌&&◌, ◌||◌, ◌++◌, ◌≡◌}
+use Rattle.records.specs.Library.{ℕ, Bool, true, false, cond, not, eqb, leb, List, [], map, length, take, slice}
 use Rattle.records.specs.{Phase, Plain, Output, Positions, Spoiled, Counters.capacity_of, Counters.rightly_lent, Glyphs.Glyph, View.glyphs, View.positions_in}
 use Rattle.records.specs.{View.paired, View.stored, Contradiction, Answers.Said, Answers.ok, Answers.ok_with, Answers.no, Answers.said, View.words_from}
 use Rattle.lists.specs.{declared.Buffer.Buffer, declared.Reply.Reply, declared.Item.Item, declared.Item.TheVariants.OfDone}

@@ -1,5 +1,6 @@
 -- Words in a string of bytes: "operands of four bytes, low byte first".
-use Rattle.records.specs.Library.{ℕ, zero, suc, ◌+◌, ◌*◌, ◌/◌, List, [], ◌∷◌, length, get_or}
+use Rattle.std.specs.Prelude.{◌+◌, ◌*◌, ◌/◌, ◌∷◌}
+use Rattle.records.specs.Library.{ℕ, zero, suc, List, [], length, get_or}
 
 abbrev pub word : ℕ → ℕ → ℕ → ℕ → ℕ
 word a b c d = a + 256 * (b + 256 * (c + 256 * d))

@@ -1,5 +1,6 @@
 -- The counters that no list shows (allocated size, max_len, max_ops, successful, serial, pushes), and the lengths of the lent slices.
-use Rattle.records.specs.Library.{ℕ, suc, ◌+◌, ◌-◌, ◌*◌, ◌/◌, ◌%◌, min, max, Bool, true, false, cond, not, ◌&&◌, eqb, leb}
+use Rattle.std.specs.Prelude.{◌+◌, ◌-◌, ◌*◌, ◌/◌, ◌%◌, ◌&&◌}
+use Rattle.records.specs.Library.{ℕ, suc, min, max, Bool, true, false, cond, not, eqb, leb}
 use Rattle.records.specs.declared.Limits.{Limits}
 
 -- "two word slices of equal length"; "Lent slices are now six words a glyph, as refusal 1 reads" (document 02, N8): the capacity of a slice of this length

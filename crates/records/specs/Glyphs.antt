@@ -1,6 +1,7 @@
 -- A glyph: its number, and the rest of its words.
 -- The number's type is a parameter, G. A definition made for every G cannot test, compare or compute a glyph number: it can only hand it on.
-use Rattle.records.specs.Library.{ℕ, ◌+◌, ◌*◌, ◌/◌, ◌%◌, cond, eqb, bit_and, bit_or}
+use Rattle.std.specs.Prelude.{◌+◌, ◌*◌, ◌/◌, ◌%◌}
+use Rattle.records.specs.Library.{ℕ, cond, eqb, bit_and, bit_or}
 use Rattle.records.specs.declared.Position.{Position}
 
 unfoldable pub zero_position : Position

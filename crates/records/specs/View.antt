@@ -1,5 +1,6 @@
 -- How words are seen: a slice as a list of glyphs, and as a list of positions, six words each. Words after the last whole one belong to none.
-use Rattle.records.specs.Library.{ℕ, zero, suc, ◌+◌, ◌*◌, ◌%◌, List, [], ◌∷◌, map, length, drop, get_or, ◌≡◌}
+use Rattle.std.specs.Prelude.{◌+◌, ◌*◌, ◌%◌, ◌∷◌, ◌≡◌}
+use Rattle.records.specs.Library.{ℕ, zero, suc, List, [], map, length, drop, get_or}
 use Rattle.records.specs.{declared.Position.Position, declared.GlyphInfo.GlyphInfo, Counters.capacity_of}
 use Rattle.records.specs.Glyphs.{Glyph, with_position, change, zero_position}
 

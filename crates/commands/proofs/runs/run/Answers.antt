@@ -16,7 +16,7 @@ pub loop-last-smaller : goal.loop-last-smaller
 loop-last-smaller c = search running-less
 
 pub loop-last-preserved : goal.loop-last-preserved
-loop-last-preserved c = search (made_more, tested, rules)
+loop-last-preserved c = search (made_more, rules)
 
 pub shape_of-first : goal.shape_of-first
 shape_of-first c = search (tested, rules)
@@ -25,4 +25,4 @@ pub shape_of-second : goal.shape_of-second
 shape_of-second c = search (tested, rules)
 
 pub returns : goal.returns
-returns c = search (made-runs, tested, rules)
+returns c = search (made-runs, rules)
