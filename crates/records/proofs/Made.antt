@@ -5,7 +5,7 @@ use lib.{ListN.length, ListN.get_or, ListN.set, ListN.drop}
 use Rattle.records.specs.Counters.{capacity_of}
 use Rattle.records.specs.{View.up_to, View.row, View.rows, View.made, inner.Stores.Put}
 use Rattle.records.proofs.Renaming.{drop-map}
-use Rattle.records.proofs.Places.{length-rows, get_d_rows, put-rows, put_two, put_six}
+use Rattle.records.proofs.Places.{length-rows, get_or-rows, put-rows, put_two, put_six}
 
 -- ---- any map on a list
 module _ {A B : Type 0} (f : A → B) where
@@ -22,7 +22,7 @@ module _ {A B : Type 0} (f : A → B) where
 -- ---- what six words make
 module _ {A : Type 0} (mk : ℕ → ℕ → ℕ → ℕ → ℕ → ℕ → A) where
   pub get_or-made : (ws : List ℕ) (i : ℕ) (z : A) → i < capacity_of (length ws) → get_or (map (made mk) (rows ws)) i z ≡ made mk (row ws i)
-  get_or-made ws i z h = map_at (made mk) (rows ws) i [] z (rw (length-rows ws) h) ∙ ap (made mk) (get_d_rows ws i h)
+  get_or-made ws i z h = map_at (made mk) (rows ws) i [] z (rw (length-rows ws) h) ∙ ap (made mk) (get_or-rows ws i h)
 
   pub put-made : {ws ws' : List ℕ} {c i v : ℕ} → Put ws ws' c i v → map (made mk) (rows ws') ≡ set (map (made mk) (rows ws)) i (made mk (set (row ws i) c v))
   put-made {ws} {ws'} {c} {i} {v} p = ap (map (made mk)) (put-rows p) ∙ map-set (made mk) (rows ws) i (set (row ws i) c v)

@@ -51,9 +51,9 @@ pub length-rows : (ws : List ℕ) → length (rows ws) ≡ capacity_of (length w
 unfolding rows
 length-rows ws = length-up_to _ (row ws)
 
-pub get_d_rows : (ws : List ℕ) (i : ℕ) → i < capacity_of (length ws) → get_or (rows ws) i [] ≡ row ws i
+pub get_or-rows : (ws : List ℕ) (i : ℕ) → i < capacity_of (length ws) → get_or (rows ws) i [] ≡ row ws i
 unfolding rows
-get_d_rows ws i h = get_or-up_to _ (row ws) i [] h
+get_or-rows ws i h = get_or-up_to _ (row ws) i [] h
 
 -- ---- a word that is read
 pub got_word : (ws : List ℕ) (c i : ℕ) {at : ℕ} → at ≡ word_place (length ws) c i → get_or ws at 0 ≡ word ws c i
@@ -102,15 +102,15 @@ put-rows {ws} {ws'} {c} {i} {v} p =
     let hj : j < capacity_of (length ws') = rw (length-rows ws') at h in
     let hk : j < capacity_of (length ws) = rw p.len at hj in
     let hr : i < length (rows ws) = rw (length-rows ws) p.inside in
-    get_d_rows ws' j hj
+    get_or-rows ws' j hj
     ∙ cases_eq j i
     (λ e. rw e (one-row p ∙ sym (get_or-set_same (rows ws) i r [] hr)))
-    (λ n. same-up_to 6 (λ d. word ws' d j) (λ d. word ws d j) (λ d hd. p.rest d j hd hk (λ _ e. n e)) ∙ sym (get_or-set_other (rows ws) i j r [] n ∙ get_d_rows ws j hk)))
+    (λ n. same-up_to 6 (λ d. word ws' d j) (λ d. word ws d j) (λ d hd. p.rest d j hd hk (λ _ e. n e)) ∙ sym (get_or-set_other (rows ws) i j r [] n ∙ get_or-rows ws j hk)))
 
 -- a second word written in the row of a first
 put-over : {ws ws' : List ℕ} {c i v : ℕ} (l : List (List ℕ)) (r : List ℕ) → i < length l → rows ws ≡ set l i r → Put ws ws' c i v → rows ws' ≡ set l i (set r c v)
 put-over {ws} {ws'} {c} {i} {v} l r h e p =
-    let same : row ws i ≡ r = sym (get_d_rows ws i p.inside) ∙ (ap (λ (k : List (List ℕ)). get_or k i []) e ∙ get_or-set_same l i r [] h) in
+    let same : row ws i ≡ r = sym (get_or-rows ws i p.inside) ∙ (ap (λ (k : List (List ℕ)). get_or k i []) e ∙ get_or-set_same l i r [] h) in
     put-rows p ∙ rw (same, e) (set-set l i r (set r c v))
 
 pub put_two : {ws ws₁ ws₂ : List ℕ} {c d i v w : ℕ} → Put ws ws₁ c i v → Put ws₁ ws₂ d i w → rows ws₂ ≡ set (rows ws) i (set (set (row ws i) c v) d w)
