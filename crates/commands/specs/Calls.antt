@@ -4,9 +4,10 @@ use Rattle.records.specs.Library.{ℕ, zero, suc, true, false, cond, not, eqb, O
 use Rattle.records.specs.{DonePlace, InputPlace, Contradiction, Unreadable, Bytes.word, Counters.capacity_of, Counters.rightly_lent, Glyphs.zero_position}
 use Rattle.lists.specs.{Account.Account, Account.Result, Account.Outcome, Account.refused, Account.outcome, Account.refuse◌when◌else◌}
 use Rattle.lists.specs.Cursor.{fresh, enter, leave, allocate_lig_id, clear_output, clear_positions, next_glyphs, skip_glyph, sync, move_to}
-use Rattle.edits.specs.{Writing.copy_glyph, Writing.output_glyph, Writing.output_info, Writing.replace_glyphs, Deleting.delete_glyph, Deleting.delete_glyphs_inplace}
-use Rattle.edits.specs.{Merging.merge_input, Merging.merge_done, Merging.clusters_merge, Merging.graphemes_merge, Flags.plain_form, Flags.outbuffer_form}
-use Rattle.edits.specs.{Flags.wants_concat, Flags.wants_tatweel, Groups.reverse_clusters, Groups.reverse_graphemes, Groups.form_clusters, Groups.propagate_flags}
+use Rattle.edits.specs.Writing.{copy_glyph, output_glyph, output_info, replace_glyphs}
+use Rattle.edits.specs.Merging.{merge_input, merge_done, clusters_merge, graphemes_merge}
+use Rattle.edits.specs.{Deleting.delete_glyph, Deleting.delete_glyphs_inplace, Flags.plain_form, Flags.outbuffer_form, Flags.wants_concat, Flags.wants_tatweel}
+use Rattle.edits.specs.Groups.{reverse_clusters, reverse_graphemes, form_clusters, propagate_flags}
 use Rattle.edits.specs.WholeRun.{push, set_length, place, set_masks, reverse_run, reverse_range, reset_clusters, sort}
 
 -- a call, with all its operands but its glyph numbers

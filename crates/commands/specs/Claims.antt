@@ -3,8 +3,8 @@
 use Rattle.std.specs.Prelude.{◌/◌, ◌%◌, ◌≤◌, ◌<◌, ◌∷◌, ◌++◌, ◌≡◌}
 use Rattle.records.specs.Library.{ℕ, zero, suc, some, List, [], map, length}
 use Rattle.records.specs.{Bytes.word, Glyphs.Glyph}
-use Rattle.lists.specs.{Account.Account, Account.len, Account.idx, Account.out_length, Account.positions, Account.fresh_account, Account.renamed, Account.Outcome}
-use Rattle.lists.specs.{Contract.account, Contract.outcome_of, Contract.Meets, declared.Buffer.Buffer, declared.Reply.Reply}
+use Rattle.lists.specs.{Account.Account, Account.len, Account.idx, Account.out_length, Account.positions, Account.fresh_account, Account.renamed}
+use Rattle.lists.specs.{Account.Outcome, Contract.account, Contract.outcome_of, Contract.Meets, declared.Buffer.Buffer, declared.Reply.Reply}
 use Rattle.edits.specs.{Flags.Searches, Groups.EveryEntry}
 use Rattle.commands.specs.{Origins.FromPushes, Runs.Steps, declared.Step.Step, Texts.layout_record, Texts.exam_text, Texts.desk_text, Table.Starred}
 use Rattle.commands.specs.Calls.{Worded, perform, run, Form, unknown, operands, glyph_and, listed, unreadable, got, words, operand, form_of}
@@ -40,7 +40,8 @@ module _ (f : ℕ → ℕ) where
   renamed_form unknown next l = l
   renamed_form (operands n k) next l = over_operands as_it_is n next l
   renamed_form (glyph_and n k) next l = over_operands renamed_number 1 (over_operands as_it_is n next) l
-  renamed_form (listed k) next l = over_operands as_it_is 2 (over_operands renamed_number (elim (words 2 l) [ unreadable ↦ 0 | got ws r ↦ operand 1 ws ]) next) l
+  renamed_form (listed k) next l =
+      over_operands as_it_is 2 (over_operands renamed_number (elim (words 2 l) [ unreadable ↦ 0 | got ws r ↦ operand 1 ws ]) next) l
 
   unfoldable pub renamed_up_to : ℕ → List ℕ → List ℕ
   renamed_up_to zero l = l
@@ -167,7 +168,8 @@ pub record Demand2 (b : Buffer) : Type 0 where
 -- and wants over equally long slices."
 pub record Demand3 (level wants : ℕ) (f : ℕ → ℕ) : Type 0 where
   pub calls : (m n : ℕ) (ws : List (Worded ℕ)) → let a = fresh_account level wants in Renamed f a (run 0 m n ws a) a (run 0 m n (map (reworded f) ws) a)
-  pub bytes : (m n : ℕ) (script : List ℕ) → let a = fresh_account level wants in Renamed f a (run_bytes m n script a) a (run_bytes m n (renamed_bytes f script) a)
+  pub bytes : (m n : ℕ) (script : List ℕ)
+      → let a = fresh_account level wants in Renamed f a (run_bytes m n script a) a (run_bytes m n (renamed_bytes f script) a)
 
 -- "by the functions' equations it holds of their runs too": of what they return and leave, in other slices of the same lengths too
 pub record Demand3Returned (b : Buffer) (f : ℕ → ℕ) (i j i' j' : List ℕ) : Type 0 where

@@ -2,8 +2,8 @@
 use Rattle.std.specs.Prelude.{◌≤◌, ◌<◌, ◌&&◌, ◌∷◌, ◌≡◌}
 use Rattle.records.specs.Library.{ℕ, Bool, true, cond, leb, List, [], length, drop}
 use Rattle.records.specs.{Contradiction, Unreadable, Answers.said, Answers.ok}
-use Rattle.lists.specs.{Account.Account, Account.Outcome, Account.refused, Account.outcome, Contract.account, Contract.sound, Contract.outcome_of, Contract.is_no}
-use Rattle.lists.specs.{Contract.LeavesAlone, declared.Buffer.Buffer}
+use Rattle.lists.specs.{Account.Account, Account.Outcome, Account.refused, Account.outcome, Contract.account, Contract.sound, Contract.outcome_of}
+use Rattle.lists.specs.{Contract.is_no, Contract.LeavesAlone, declared.Buffer.Buffer}
 use Rattle.commands.specs.{Calls.Worded, Calls.step, Calls.Read, Calls.unreadable, Calls.got, Calls.front, Calls.behind, Calls.read_up_to, Calls.run_read}
 use Rattle.commands.specs.{declared.Step.Step, declared.Ran.Ran}
 

@@ -111,7 +111,8 @@ module _ {G : Type 0} (a : Account G) where
     pub plain : (bits i j : ℕ) → 2 ≤ j - i
         → flag_interior bits i j a ≡ with_input (edit i j (flagged_unless (least (slice i j (clusters (input a)))) bits) (input a)) a
     pub outbuffer : (bits i j : ℕ) → let m = min (least (drop i (clusters a.done))) (least (take j (clusters (input a)))) in
-        flag_out_interior bits i j a ≡ with_done (edit i (out_length a) (flagged_unless m bits) a.done) (with_input (edit 0 j (flagged_unless m bits) (input a)) a)
+        flag_out_interior bits i j a
+        ≡ with_done (edit i (out_length a) (flagged_unless m bits) a.done) (with_input (edit 0 j (flagged_unless m bits) (input a)) a)
 
   -- the two definitions as they were, word for word
   pub record SearchesAsBefore : Type 0 where

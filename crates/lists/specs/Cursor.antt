@@ -1,10 +1,10 @@
 -- Counters and the cursor: calls 00, 03, 04, 05, 07, 08, 09, 10, 24, 25, 26.
 use Rattle.std.specs.Prelude.{◌+◌, ◌-◌, ◌%◌, ◌||◌, ◌++◌}
 use Rattle.records.specs.Library.{ℕ, cond, not, ltb, List, [], map, length, take, drop}
-use Rattle.records.specs.{Plain, Output, Positions, Spoiled, WrongPhase, OutOfRange, BadOperand, Counters.is_negative, Counters.after_enter, Counters.after_leave}
-use Rattle.records.specs.{Counters.lig_serial, Counters.with_serial, Glyphs.Glyph, Glyphs.change, Glyphs.with_position, Glyphs.zero_position}
-use Rattle.lists.specs.Account.{Account, in_phase, with_gone, has_output, is_spoiled, input, len, idx, out_length, fresh_account, limiting, paying, failing, sized}
-use Rattle.lists.specs.Account.{Result, accepted, answered, refuse◌when◌else◌, needing}
+use Rattle.records.specs.{Plain, Output, Positions, Spoiled, WrongPhase, OutOfRange, BadOperand, Counters.is_negative, Counters.after_enter, Glyphs.Glyph}
+use Rattle.records.specs.{Counters.after_leave, Counters.lig_serial, Counters.with_serial, Glyphs.change, Glyphs.with_position, Glyphs.zero_position}
+use Rattle.lists.specs.Account.{Account, in_phase, with_gone, has_output, is_spoiled, input, len, idx, out_length, fresh_account, limiting, paying, failing}
+use Rattle.lists.specs.Account.{sized, Result, accepted, answered, refuse◌when◌else◌, needing}
 
 module _ {G : Type 0} where
   -- spoiled, "only 00 is then accepted, no list shown": the others test `is_spoiled`, or a phase that it is not
