@@ -49,7 +49,7 @@ def functions(root):
         for line in re.findall(r'^use ([^;]+);', text, re.M):
             for use in brought(line):
                 known[use[-1]] = [crate if part == 'super' else part for part in use]
-        for head, name, body in re.findall(r'^((?:pub(?:\(crate\))? )?fn (\w+)\(.*?)\{\n(.*?)^\}', text, re.M | re.S):
+        for head, name, body in re.findall(r'^((?:pub(?:\(crate\))? )?fn (\w+)(?:<.*?>)?\(.*?)\{\n(.*?)^\}', text, re.M | re.S):
             full = f'{crate}::{module}::{name}'
             found[full] = Function(full, head, body, known)
     return found

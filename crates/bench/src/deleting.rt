@@ -1,32 +1,9 @@
 // Loads that delete: 0F, 21.
-use super::states::{finish, opened, placed, tell, whole};
+use super::states::{each, finish, opened, placed, tell, whole};
 use edits::{deleting, deleting_inplace};
-use lists::{Buffer, cursor};
+use lists::cursor;
 
 // One glyph of four goes; the others go on.
-fn delete_or_pass(b: Buffer, first: &mut [u32], second: &mut [u32], i: usize) -> Buffer {
-    if i % 4 == 2 {
-        return deleting::delete_glyph(b, first, second).buffer;
-    }
-    cursor::next_glyph(b, first, second).buffer
-}
-
-fn delete_some(start: Buffer, first: &mut [u32], second: &mut [u32], n: usize) -> Buffer {
-    let mut b = start;
-    for i in 0..n {
-        b = delete_or_pass(b, first, second, i);
-    }
-    b
-}
-
-fn delete_all(start: Buffer, first: &mut [u32], second: &mut [u32], n: usize) -> Buffer {
-    let mut b = start;
-    for i in 0..n {
-        b = deleting::delete_glyph(b, first, second).buffer;
-    }
-    b
-}
-
 #[unsafe(no_mangle)]
 pub extern "C" fn bench_delete(
     first: &mut [u32],
@@ -35,8 +12,15 @@ pub extern "C" fn bench_delete(
     level: u32,
     out: &mut [u64],
 ) {
-    let b = opened(n, level, first, second);
-    finish(delete_some(b, first, second, n), first, second, out);
+    let start = opened(n, level, first, second);
+    let b = each(start, first, second, n, |b, f, s, i| {
+        if i % 4 == 2 {
+            *b = deleting::delete_glyph(*b, f, s).buffer;
+        } else {
+            *b = cursor::next_glyph(*b, f, s).buffer;
+        }
+    });
+    finish(b, first, second, out);
 }
 
 // Clusters fall from glyph to glyph: each deletion gives its cluster to what is done.
@@ -49,8 +33,11 @@ pub extern "C" fn bench_delete_falling(
     out: &mut [u64],
 ) {
     let o = opened(n, level, first, second);
-    let b = cursor::next_glyphs(o, first, second, n / 2).buffer;
-    finish(delete_all(b, first, second, n - n / 2), first, second, out);
+    let start = cursor::next_glyphs(o, first, second, n / 2).buffer;
+    let b = each(start, first, second, n - n / 2, |b, f, s, _| {
+        *b = deleting::delete_glyph(*b, f, s).buffer;
+    });
+    finish(b, first, second, out);
 }
 
 // Glyphs whose var0 has bit 8.

@@ -1,41 +1,7 @@
 // Loads that fill: 01, 02, 05, 06.
-use super::states::{placed, tell, whole};
+use super::states::{each, placed, tell, whole};
 use edits::filling;
-use lists::Buffer;
 use records::InputPlace;
-
-fn fill(start: Buffer, first: &mut [u32], second: &mut [u32], n: usize) -> Buffer {
-    let mut b = start;
-    for i in 0..n {
-        b = filling::push(
-            b,
-            first,
-            second,
-            7 + (i % 256) as u32,
-            (i % 4294967296) as u32,
-        )
-        .buffer;
-    }
-    b
-}
-
-fn place_all(start: Buffer, first: &mut [u32], second: &mut [u32], n: usize) -> Buffer {
-    let mut b = start;
-    for i in 0..n {
-        b = filling::place(
-            b,
-            first,
-            second,
-            InputPlace(i),
-            500 + (i % 64) as u32,
-            0,
-            3,
-            4,
-        )
-        .buffer;
-    }
-    b
-}
 
 #[unsafe(no_mangle)]
 pub extern "C" fn bench_push(
@@ -45,8 +11,11 @@ pub extern "C" fn bench_push(
     level: u32,
     out: &mut [u64],
 ) {
-    let b = whole(0, 0, level, 0);
-    tell(fill(b, first, second, n), out);
+    let start = whole(0, 0, level, 0);
+    let b = each(start, first, second, n, |b, f, s, i| {
+        *b = filling::push(*b, f, s, 7 + (i % 256) as u32, (i % 4294967296) as u32).buffer;
+    });
+    tell(b, out);
 }
 
 #[unsafe(no_mangle)]
@@ -69,8 +38,7 @@ pub extern "C" fn bench_clear_positions(
     level: u32,
     out: &mut [u64],
 ) {
-    let b = placed(n, level, first, second);
-    tell(b, out);
+    tell(placed(n, level, first, second), out);
 }
 
 #[unsafe(no_mangle)]
@@ -81,6 +49,9 @@ pub extern "C" fn bench_place(
     level: u32,
     out: &mut [u64],
 ) {
-    let b = placed(n, level, first, second);
-    tell(place_all(b, first, second, n), out);
+    let start = placed(n, level, first, second);
+    let b = each(start, first, second, n, |b, f, s, i| {
+        *b = filling::place(*b, f, s, InputPlace(i), 500 + (i % 64) as u32, 0, 3, 4).buffer;
+    });
+    tell(b, out);
 }

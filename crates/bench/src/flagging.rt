@@ -1,54 +1,19 @@
 // Loads that set break flags: 15, 18.
-use super::states::{finish, less, opened, tell, whole};
-use edits::{DoneBound, InputBound, flagging};
-use lists::{Buffer, cursor};
+use super::states::{each, finish, opened, tell, whole};
+use edits::flagging;
+use lists::cursor;
 use records::{DonePlace, InputPlace};
 
+// The bounds that a flag call takes.
+fn at(i: usize) -> Option<InputPlace> {
+    Some(InputPlace(i))
+}
+
+fn done_at(i: usize) -> Option<DonePlace> {
+    Some(DonePlace(i))
+}
+
 // Three glyphs of four.
-fn mark(start: Buffer, first: &mut [u32], second: &mut [u32], n: usize) -> Buffer {
-    let mut b = start;
-    for k in 0..n / 4 {
-        let i = 4 * k;
-        let start = InputBound::At(InputPlace(i));
-        let end = InputBound::At(InputPlace(i + 3));
-        b = flagging::unsafe_to_break(b, first, second, start, end).buffer;
-    }
-    b
-}
-
-// Each pair of neighbours, as kerning does.
-fn mark_pairs(start: Buffer, first: &mut [u32], second: &mut [u32], n: usize) -> Buffer {
-    let mut b = start;
-    for i in 0..less(n, 1) {
-        let start = InputBound::At(InputPlace(i));
-        let end = InputBound::At(InputPlace(i + 2));
-        b = flagging::unsafe_to_break(b, first, second, start, end).buffer;
-    }
-    b
-}
-
-fn pass_and_mark(
-    b: Buffer,
-    first: &mut [u32],
-    second: &mut [u32],
-    start: usize,
-    end: usize,
-) -> Buffer {
-    let passed = cursor::next_glyphs(b, first, second, 4).buffer;
-    let from = DoneBound::At(DonePlace(start));
-    let to = InputBound::At(InputPlace(end));
-    flagging::unsafe_to_break_from_outbuffer(passed, first, second, from, to).buffer
-}
-
-fn mark_out(start: Buffer, first: &mut [u32], second: &mut [u32], n: usize) -> Buffer {
-    let mut b = start;
-    for k in 0..less(n / 4, 1) {
-        let i = 4 * k;
-        b = pass_and_mark(b, first, second, i + 2, i + 6);
-    }
-    b
-}
-
 #[unsafe(no_mangle)]
 pub extern "C" fn bench_unsafe(
     first: &mut [u32],
@@ -57,10 +22,15 @@ pub extern "C" fn bench_unsafe(
     level: u32,
     out: &mut [u64],
 ) {
-    let b = whole(n, n, level, 0);
-    tell(mark(b, first, second, n), out);
+    let mut b = whole(n, n, level, 0);
+    // tried with `each`: 6 instructions more a call, since the reply is cleared anew
+    for k in 0..n / 4 {
+        b = flagging::unsafe_to_break(b, first, second, at(4 * k), at(4 * k + 3)).buffer;
+    }
+    tell(b, out);
 }
 
+// Each pair of neighbours, as kerning does.
 #[unsafe(no_mangle)]
 pub extern "C" fn bench_unsafe_pairs(
     first: &mut [u32],
@@ -69,8 +39,12 @@ pub extern "C" fn bench_unsafe_pairs(
     level: u32,
     out: &mut [u64],
 ) {
-    let b = whole(n, n, level, 0);
-    tell(mark_pairs(b, first, second, n), out);
+    let mut b = whole(n, n, level, 0);
+    // tried with `each`: as above
+    for i in 0..n.saturating_sub(1) {
+        b = flagging::unsafe_to_break(b, first, second, at(i), at(i + 2)).buffer;
+    }
+    tell(b, out);
 }
 
 #[unsafe(no_mangle)]
@@ -81,6 +55,12 @@ pub extern "C" fn bench_unsafe_out(
     level: u32,
     out: &mut [u64],
 ) {
-    let b = opened(n, level, first, second);
-    finish(mark_out(b, first, second, n), first, second, out);
+    let start = opened(n, level, first, second);
+    let times = (n / 4).saturating_sub(1);
+    let b = each(start, first, second, times, |b, f, s, k| {
+        *b = cursor::next_glyphs(*b, f, s, 4).buffer;
+        let from = done_at(4 * k + 2);
+        *b = flagging::unsafe_to_break_from_outbuffer(*b, f, s, from, at(4 * k + 6)).buffer;
+    });
+    finish(b, first, second, out);
 }

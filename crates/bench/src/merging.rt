@@ -1,76 +1,10 @@
 // Loads that merge clusters: 11, 12.
-use super::states::{finish, less, opened, tell, whole};
+use super::states::{each, finish, opened, tell, whole};
 use edits::merges;
-use lists::{Buffer, cursor};
+use lists::cursor;
 use records::{DonePlace, InputPlace};
 
 // Three glyphs of four.
-fn merge(start: Buffer, first: &mut [u32], second: &mut [u32], n: usize) -> Buffer {
-    let mut b = start;
-    for k in 0..n / 4 {
-        let i = 4 * k;
-        b = merges::merge_clusters(b, first, second, InputPlace(i), InputPlace(i + 3)).buffer;
-    }
-    b
-}
-
-fn pass_and_merge(
-    b: Buffer,
-    first: &mut [u32],
-    second: &mut [u32],
-    start: DonePlace,
-    end: DonePlace,
-) -> Buffer {
-    let passed = cursor::next_glyphs(b, first, second, 4).buffer;
-    merges::merge_out_clusters(passed, first, second, start, end).buffer
-}
-
-fn merge_out(start: Buffer, first: &mut [u32], second: &mut [u32], n: usize) -> Buffer {
-    let mut b = start;
-    for k in 0..n / 4 {
-        let i = 4 * k;
-        b = pass_and_merge(b, first, second, DonePlace(i + 1), DonePlace(i + 3));
-    }
-    b
-}
-
-// Chains: each merge joins what the one before made.
-fn merge_back(start: Buffer, first: &mut [u32], second: &mut [u32], n: usize) -> Buffer {
-    let mut b = start;
-    for k in 2..n {
-        let i = n - k;
-        b = merges::merge_clusters(b, first, second, InputPlace(i), InputPlace(i + 2)).buffer;
-    }
-    b
-}
-
-fn merge_on(start: Buffer, first: &mut [u32], second: &mut [u32], n: usize) -> Buffer {
-    let mut b = start;
-    for i in 0..less(n, 2) {
-        b = merges::merge_clusters(b, first, second, InputPlace(i), InputPlace(i + 2)).buffer;
-    }
-    b
-}
-
-fn pass_one_and_merge(
-    b: Buffer,
-    first: &mut [u32],
-    second: &mut [u32],
-    start: DonePlace,
-    end: DonePlace,
-) -> Buffer {
-    let passed = cursor::next_glyph(b, first, second).buffer;
-    merges::merge_out_clusters(passed, first, second, start, end).buffer
-}
-
-fn merge_out_on(start: Buffer, first: &mut [u32], second: &mut [u32], n: usize) -> Buffer {
-    let mut b = start;
-    for i in 2..n {
-        b = pass_one_and_merge(b, first, second, DonePlace(i - 2), DonePlace(i));
-    }
-    b
-}
-
 #[unsafe(no_mangle)]
 pub extern "C" fn bench_merge(
     first: &mut [u32],
@@ -79,8 +13,11 @@ pub extern "C" fn bench_merge(
     level: u32,
     out: &mut [u64],
 ) {
-    let b = whole(n, n, level, 0);
-    tell(merge(b, first, second, n), out);
+    let start = whole(n, n, level, 0);
+    let b = each(start, first, second, n / 4, |b, f, s, k| {
+        *b = merges::merge_clusters(*b, f, s, InputPlace(4 * k), InputPlace(4 * k + 3)).buffer;
+    });
+    tell(b, out);
 }
 
 #[unsafe(no_mangle)]
@@ -91,10 +28,21 @@ pub extern "C" fn bench_merge_out(
     level: u32,
     out: &mut [u64],
 ) {
-    let b = opened(n, level, first, second);
-    finish(merge_out(b, first, second, n), first, second, out);
+    let start = opened(n, level, first, second);
+    let b = each(start, first, second, n / 4, |b, f, s, k| {
+        *b = cursor::next_glyphs(*b, f, s, 4).buffer;
+        *b = merges::merge_out_clusters(
+            *b,
+            f,
+            s,
+            DonePlace(4 * k + 1),
+            DonePlace(4 * k + 3),
+        ).buffer;
+    });
+    finish(b, first, second, out);
 }
 
+// Chains: each merge joins what the one before made.
 #[unsafe(no_mangle)]
 pub extern "C" fn bench_merge_back(
     first: &mut [u32],
@@ -103,8 +51,11 @@ pub extern "C" fn bench_merge_back(
     level: u32,
     out: &mut [u64],
 ) {
-    let b = whole(n, n, level, 0);
-    tell(merge_back(b, first, second, n), out);
+    let start = whole(n, n, level, 0);
+    let b = each(start, first, second, n.saturating_sub(2), |b, f, s, k| {
+        *b = merges::merge_clusters(*b, f, s, InputPlace(n - 2 - k), InputPlace(n - k)).buffer;
+    });
+    tell(b, out);
 }
 
 #[unsafe(no_mangle)]
@@ -115,8 +66,11 @@ pub extern "C" fn bench_merge_on(
     level: u32,
     out: &mut [u64],
 ) {
-    let b = whole(n, n, level, 0);
-    tell(merge_on(b, first, second, n), out);
+    let start = whole(n, n, level, 0);
+    let b = each(start, first, second, n.saturating_sub(2), |b, f, s, i| {
+        *b = merges::merge_clusters(*b, f, s, InputPlace(i), InputPlace(i + 2)).buffer;
+    });
+    tell(b, out);
 }
 
 #[unsafe(no_mangle)]
@@ -128,6 +82,10 @@ pub extern "C" fn bench_merge_out_on(
     out: &mut [u64],
 ) {
     let o = opened(n, level, first, second);
-    let b = cursor::next_glyph(o, first, second).buffer;
-    finish(merge_out_on(b, first, second, n), first, second, out);
+    let start = cursor::next_glyph(o, first, second).buffer;
+    let b = each(start, first, second, n.saturating_sub(2), |b, f, s, i| {
+        *b = cursor::next_glyph(*b, f, s).buffer;
+        *b = merges::merge_out_clusters(*b, f, s, DonePlace(i), DonePlace(i + 2)).buffer;
+    });
+    finish(b, first, second, out);
 }

@@ -1,47 +1,16 @@
 // Loads that move the cursor: 10.
-use super::states::{finish, opened, opened_apart};
+use super::states::{each, finish, opened, opened_apart};
 use edits::writing;
 use lists::{Buffer, cursor};
 
-fn move_on_and_back(
-    b: Buffer,
-    first: &mut [u32],
-    second: &mut [u32],
-    there: usize,
-    back: usize,
-) -> Buffer {
-    let far = cursor::move_to(b, first, second, there).buffer;
-    cursor::move_to(far, first, second, back).buffer
-}
-
 // Sixteen on and four back.
-fn move_about(start: Buffer, first: &mut [u32], second: &mut [u32], n: usize) -> Buffer {
-    let mut b = start;
+fn move_about(mut b: Buffer, first: &mut [u32], second: &mut [u32], n: usize) -> Buffer {
+    // tried with `each`: up to 7 instructions more a round
     for k in 1..n / 16 {
-        let i = 16 * k;
-        b = move_on_and_back(b, first, second, i, i - 4);
+        b = cursor::move_to(b, first, second, 16 * k).buffer;
+        b = cursor::move_to(b, first, second, 16 * k - 4).buffer;
     }
     b
-}
-
-// Back over the start of the input, which goes up by one each time.
-fn write_and_return(b: Buffer, first: &mut [u32], second: &mut [u32]) -> Buffer {
-    let written = writing::output_glyph(b, first, second, 5).buffer;
-    cursor::move_to(written, first, second, 0).buffer
-}
-
-fn move_over(start: Buffer, first: &mut [u32], second: &mut [u32], n: usize) -> Buffer {
-    let mut b = start;
-    for i in 0..n {
-        b = write_and_return(b, first, second);
-    }
-    b
-}
-
-// From one end to the other and back.
-fn move_far(b: Buffer, first: &mut [u32], second: &mut [u32], n: usize) -> Buffer {
-    let there = cursor::move_to(b, first, second, n).buffer;
-    cursor::move_to(there, first, second, 1).buffer
 }
 
 // Output in the run, at the same place: nothing is copied.
@@ -69,6 +38,7 @@ pub extern "C" fn bench_move_apart(
     finish(move_about(b, first, second, n), first, second, out);
 }
 
+// From one end to the other and back.
 #[unsafe(no_mangle)]
 pub extern "C" fn bench_move_far(
     first: &mut [u32],
@@ -78,9 +48,12 @@ pub extern "C" fn bench_move_far(
     out: &mut [u64],
 ) {
     let b = opened_apart(n, level, first, second);
-    finish(move_far(b, first, second, n), first, second, out);
+    let there = cursor::move_to(b, first, second, n).buffer;
+    let back = cursor::move_to(there, first, second, 1).buffer;
+    finish(back, first, second, out);
 }
 
+// Back over the start of the input, which goes up by one each time.
 #[unsafe(no_mangle)]
 pub extern "C" fn bench_move_over(
     first: &mut [u32],
@@ -89,6 +62,10 @@ pub extern "C" fn bench_move_over(
     level: u32,
     out: &mut [u64],
 ) {
-    let b = opened(n, level, first, second);
-    finish(move_over(b, first, second, 16), first, second, out);
+    let start = opened(n, level, first, second);
+    let b = each(start, first, second, 16, |b, f, s, _| {
+        *b = writing::output_glyph(*b, f, s, 5).buffer;
+        *b = cursor::move_to(*b, f, s, 0).buffer;
+    });
+    finish(b, first, second, out);
 }

@@ -1,29 +1,17 @@
 // Loads that go through a run: 04, 07, 08, 09.
-use super::states::{finish, less, opened, opened_apart, opened_shifted, tell, whole};
+use super::states::{each, finish, opened, opened_apart, opened_shifted, tell, whole};
 use lists::{Buffer, cursor};
 
 fn pass(start: Buffer, first: &mut [u32], second: &mut [u32], n: usize) -> Buffer {
-    let mut b = start;
-    for i in 0..n {
-        b = cursor::next_glyph(b, first, second).buffer;
-    }
-    b
+    each(start, first, second, n, |b, f, s, _| {
+        *b = cursor::next_glyph(*b, f, s).buffer;
+    })
 }
 
 fn pass_blocks(start: Buffer, first: &mut [u32], second: &mut [u32], n: usize) -> Buffer {
-    let mut b = start;
-    for i in 0..n {
-        b = cursor::next_glyphs(b, first, second, 16).buffer;
-    }
-    b
-}
-
-fn pass_over(start: Buffer, first: &mut [u32], second: &mut [u32], n: usize) -> Buffer {
-    let mut b = start;
-    for i in 0..n {
-        b = cursor::skip_glyph(b, first, second).buffer;
-    }
-    b
+    each(start, first, second, n, |b, f, s, _| {
+        *b = cursor::next_glyphs(*b, f, s, 16).buffer;
+    })
 }
 
 // Output in the run: nothing is copied.
@@ -49,7 +37,12 @@ pub extern "C" fn bench_pass_shifted(
     out: &mut [u64],
 ) {
     let b = opened_shifted(n, level, first, second);
-    finish(pass(b, first, second, less(n, 1)), first, second, out);
+    finish(
+        pass(b, first, second, n.saturating_sub(1)),
+        first,
+        second,
+        out,
+    );
 }
 
 // In the other slice: each glyph is copied across.
@@ -87,7 +80,7 @@ pub extern "C" fn bench_blocks_shifted(
 ) {
     let b = opened_shifted(n, level, first, second);
     finish(
-        pass_blocks(b, first, second, less(n / 16, 1)),
+        pass_blocks(b, first, second, (n / 16).saturating_sub(1)),
         first,
         second,
         out,
@@ -140,6 +133,9 @@ pub extern "C" fn bench_skip(
     level: u32,
     out: &mut [u64],
 ) {
-    let b = whole(n, n, level, 0);
-    tell(pass_over(b, first, second, n), out);
+    let start = whole(n, n, level, 0);
+    let b = each(start, first, second, n, |b, f, s, _| {
+        *b = cursor::skip_glyph(*b, f, s).buffer;
+    });
+    tell(b, out);
 }

@@ -12,7 +12,7 @@ pub extern "C" fn bench_masks(
 ) {
     let b = whole(n, n, level, 0);
     tell(
-        relabeling::set_masks(b, first, second, 80, 240, 0, 4294967295).buffer,
+        relabeling::set_masks(b, first, second, 80, 240, 0, u32::MAX).buffer,
         out,
     );
 }

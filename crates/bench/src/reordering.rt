@@ -1,37 +1,7 @@
 // Loads that turn and sort: 1B to 1E, 20.
-use super::states::{placed, tell, whole};
+use super::states::{each, placed, tell, whole};
 use edits::{reversing, sorting};
-use lists::Buffer;
 use records::InputPlace;
-
-// Five glyphs of eight.
-fn reverse_parts(start: Buffer, first: &mut [u32], second: &mut [u32], n: usize) -> Buffer {
-    let mut b = start;
-    for k in 0..n / 8 {
-        let i = 8 * k;
-        b = reversing::reverse_range(b, first, second, InputPlace(i), InputPlace(i + 5)).buffer;
-    }
-    b
-}
-
-// Each fourth glyph is a base, with three marks behind it.
-fn sort_marks(start: Buffer, first: &mut [u32], second: &mut [u32], n: usize) -> Buffer {
-    let mut b = start;
-    for k in 0..n / 4 {
-        let i = 4 * k;
-        b = sorting::sort(
-            b,
-            first,
-            second,
-            InputPlace(i + 1),
-            InputPlace(i + 4),
-            1,
-            255,
-        )
-        .buffer;
-    }
-    b
-}
 
 #[unsafe(no_mangle)]
 pub extern "C" fn bench_reverse(
@@ -58,6 +28,7 @@ pub extern "C" fn bench_reverse_placed(
     tell(reversing::reverse(b, first, second).buffer, out);
 }
 
+// Five glyphs of eight.
 #[unsafe(no_mangle)]
 pub extern "C" fn bench_reverse_ranges(
     first: &mut [u32],
@@ -66,8 +37,11 @@ pub extern "C" fn bench_reverse_ranges(
     level: u32,
     out: &mut [u64],
 ) {
-    let b = whole(n, n, level, 0);
-    tell(reverse_parts(b, first, second, n), out);
+    let start = whole(n, n, level, 0);
+    let b = each(start, first, second, n / 8, |b, f, s, k| {
+        *b = reversing::reverse_range(*b, f, s, InputPlace(8 * k), InputPlace(8 * k + 5)).buffer;
+    });
+    tell(b, out);
 }
 
 #[unsafe(no_mangle)]
@@ -97,6 +71,7 @@ pub extern "C" fn bench_reverse_clusters(
     tell(reversing::reverse_clusters(b, first, second).buffer, out);
 }
 
+// Each fourth glyph is a base, with three marks behind it.
 #[unsafe(no_mangle)]
 pub extern "C" fn bench_sort_marks(
     first: &mut [u32],
@@ -105,8 +80,20 @@ pub extern "C" fn bench_sort_marks(
     level: u32,
     out: &mut [u64],
 ) {
-    let b = whole(n, n, level, 0);
-    tell(sort_marks(b, first, second, n), out);
+    let start = whole(n, n, level, 0);
+    let b = each(start, first, second, n / 4, |b, f, s, k| {
+        *b = sorting::sort(
+            *b,
+            f,
+            s,
+            InputPlace(4 * k + 1),
+            InputPlace(4 * k + 4),
+            1,
+            255,
+        )
+        .buffer;
+    });
+    tell(b, out);
 }
 
 // The keys fall from glyph to glyph.
@@ -120,16 +107,7 @@ pub extern "C" fn bench_sort_reversed(
 ) {
     let b = whole(n, n, level, 0);
     tell(
-        sorting::sort(
-            b,
-            first,
-            second,
-            InputPlace(0),
-            InputPlace(n),
-            1,
-            4294967295,
-        )
-        .buffer,
+        sorting::sort(b, first, second, InputPlace(0), InputPlace(n), 1, u32::MAX).buffer,
         out,
     );
 }

@@ -1,63 +1,17 @@
 // Loads that write output: 0B, 0D, 0E.
-use super::states::{finish, opened, opened_apart};
+use super::states::{each, finish, opened, opened_apart};
 use edits::{replacing, writing};
 use lists::{Buffer, cursor};
 
+// The number of a glyph that is written.
+fn number(i: usize) -> u32 {
+    900 + (i % 64) as u32
+}
+
 fn replace(start: Buffer, first: &mut [u32], second: &mut [u32], n: usize) -> Buffer {
-    let mut b = start;
-    for i in 0..n {
-        b = replacing::replace_glyph(b, first, second, 900 + (i % 64) as u32).buffer;
-    }
-    b
-}
-
-// One glyph in eight is replaced; the others go on.
-fn replace_or_pass(b: Buffer, first: &mut [u32], second: &mut [u32], i: usize) -> Buffer {
-    if i % 8 == 3 {
-        return replacing::replace_glyph(b, first, second, 900).buffer;
-    }
-    cursor::next_glyph(b, first, second).buffer
-}
-
-fn replace_some(start: Buffer, first: &mut [u32], second: &mut [u32], n: usize) -> Buffer {
-    let mut b = start;
-    for i in 0..n {
-        b = replace_or_pass(b, first, second, i);
-    }
-    b
-}
-
-// Two glyphs become one.
-fn ligate(start: Buffer, first: &mut [u32], second: &mut [u32], n: usize) -> Buffer {
-    let mut b = start;
-    for i in 0..n {
-        let glyphs = [900 + (i % 64) as u32];
-        b = replacing::replace_glyphs(b, first, second, 2, 1, &glyphs).buffer;
-    }
-    b
-}
-
-// One glyph becomes two.
-fn multiply(start: Buffer, first: &mut [u32], second: &mut [u32], n: usize) -> Buffer {
-    let mut b = start;
-    for i in 0..n {
-        let glyphs = [900 + (i % 64) as u32, 7];
-        b = replacing::replace_glyphs(b, first, second, 1, 2, &glyphs).buffer;
-    }
-    b
-}
-
-fn write_and_pass(b: Buffer, first: &mut [u32], second: &mut [u32], number: u32) -> Buffer {
-    let written = writing::output_glyph(b, first, second, number).buffer;
-    cursor::next_glyph(written, first, second).buffer
-}
-
-fn write(start: Buffer, first: &mut [u32], second: &mut [u32], n: usize) -> Buffer {
-    let mut b = start;
-    for i in 0..n {
-        b = write_and_pass(b, first, second, 900 + (i % 64) as u32);
-    }
-    b
+    each(start, first, second, n, |b, f, s, i| {
+        *b = replacing::replace_glyph(*b, f, s, number(i)).buffer;
+    })
 }
 
 #[unsafe(no_mangle)]
@@ -84,6 +38,7 @@ pub extern "C" fn bench_replace_apart(
     finish(replace(b, first, second, n), first, second, out);
 }
 
+// One glyph in eight is replaced; the others go on.
 #[unsafe(no_mangle)]
 pub extern "C" fn bench_replace_some(
     first: &mut [u32],
@@ -92,10 +47,18 @@ pub extern "C" fn bench_replace_some(
     level: u32,
     out: &mut [u64],
 ) {
-    let b = opened(n, level, first, second);
-    finish(replace_some(b, first, second, n), first, second, out);
+    let start = opened(n, level, first, second);
+    let b = each(start, first, second, n, |b, f, s, i| {
+        if i % 8 == 3 {
+            *b = replacing::replace_glyph(*b, f, s, 900).buffer;
+        } else {
+            *b = cursor::next_glyph(*b, f, s).buffer;
+        }
+    });
+    finish(b, first, second, out);
 }
 
+// Two glyphs become one.
 #[unsafe(no_mangle)]
 pub extern "C" fn bench_ligatures(
     first: &mut [u32],
@@ -104,10 +67,14 @@ pub extern "C" fn bench_ligatures(
     level: u32,
     out: &mut [u64],
 ) {
-    let b = opened(n, level, first, second);
-    finish(ligate(b, first, second, n / 2), first, second, out);
+    let start = opened(n, level, first, second);
+    let b = each(start, first, second, n / 2, |b, f, s, i| {
+        *b = replacing::replace_glyphs(*b, f, s, 2, 1, &[number(i)]).buffer;
+    });
+    finish(b, first, second, out);
 }
 
+// One glyph becomes two.
 #[unsafe(no_mangle)]
 pub extern "C" fn bench_multiple(
     first: &mut [u32],
@@ -116,8 +83,11 @@ pub extern "C" fn bench_multiple(
     level: u32,
     out: &mut [u64],
 ) {
-    let b = opened(n, level, first, second);
-    finish(multiply(b, first, second, n), first, second, out);
+    let start = opened(n, level, first, second);
+    let b = each(start, first, second, n, |b, f, s, i| {
+        *b = replacing::replace_glyphs(*b, f, s, 1, 2, &[number(i), 7]).buffer;
+    });
+    finish(b, first, second, out);
 }
 
 #[unsafe(no_mangle)]
@@ -128,6 +98,10 @@ pub extern "C" fn bench_output(
     level: u32,
     out: &mut [u64],
 ) {
-    let b = opened(n, level, first, second);
-    finish(write(b, first, second, n), first, second, out);
+    let start = opened(n, level, first, second);
+    let b = each(start, first, second, n, |b, f, s, i| {
+        *b = writing::output_glyph(*b, f, s, number(i)).buffer;
+        *b = cursor::next_glyph(*b, f, s).buffer;
+    });
+    finish(b, first, second, out);
 }

@@ -1,5 +1,5 @@
 // The load of byte commands.
-use super::states::{put, tell, whole};
+use super::states::{tell, whole};
 use commands::runs;
 
 #[unsafe(no_mangle)]
@@ -11,6 +11,8 @@ pub extern "C" fn bench_bytes(
 ) {
     let b = whole(0, 0, 0, 0);
     let ran = runs::run(b, first, second, script);
+    if let Some(place) = out.get_mut(8) {
+        *place = ran.commands as u64;
+    }
     tell(ran.reply.buffer, out);
-    put(out, 8, ran.commands as u64);
 }

@@ -1,5 +1,5 @@
 // The states that loads begin with, and what is told of those that they leave.
-ghost use Rattle.std.specs.Prelude.{◌-◌, ◌≤◌};
+ghost use Rattle.std.specs.Prelude.{ℕ, ◌<◌};
 
 use edits::writing;
 use lists::{Buffer, cursor};
@@ -13,15 +13,15 @@ pub fn whole(n: usize, allocated: usize, level: u32, wants: u32) -> Buffer {
         out_len: DonePlace(0),
         phase: Phase::Plain,
         limits: Limits {
-            allocated: allocated,
+            allocated,
             max_len: 1073741823,
             max_ops: 536870911,
             successful: true,
             serial: 0,
             pushes: 0,
         },
-        level: level,
-        wants: wants,
+        level,
+        wants,
         swapped: false,
         have_separate_output: false,
     }
@@ -37,17 +37,9 @@ pub fn opened_shifted(n: usize, level: u32, first: &[u32], second: &[u32]) -> Bu
     cursor::skip_glyph(opened(n, level, first, second), first, second).buffer
 }
 
-// One more, where there is one.
-fn and_one(n: usize) -> usize {
-    if n < 4294967295 {
-        return n + 1;
-    }
-    n
-}
-
 // Output in the other slice, one glyph ahead.
 pub fn opened_apart(n: usize, level: u32, first: &mut [u32], second: &mut [u32]) -> Buffer {
-    let b = cursor::clear_output(whole(n, and_one(n), level, 0), first, second).buffer;
+    let b = cursor::clear_output(whole(n, n.saturating_add(1), level, 0), first, second).buffer;
     writing::output_glyph(b, first, second, 5).buffer
 }
 
@@ -56,51 +48,37 @@ pub fn placed(n: usize, level: u32, first: &mut [u32], second: &mut [u32]) -> Bu
     cursor::clear_positions(whole(n, n, level, 0), first, second).buffer
 }
 
-// n less k, where there is so much.
-pub fn less(n: usize, k: usize) -> usize
-    ensures { result ≤ n - k }
+// A load: its step at each number below n, in order. A step changes the state and the slices that it is lent.
+pub(crate) fn each<F: Fn(&mut Buffer, &mut [u32], &mut [u32], usize)>(
+    mut b: Buffer,
+    first: &mut [u32],
+    second: &mut [u32],
+    n: usize,
+    step: F,
+) -> Buffer
+    requires { (b : _) (f : _) (s : _) (i : ℕ) → i < n → F.pre step b f s i }
 {
-    if n < k {
-        return 0;
+    for i in 0..n {
+        step(&mut b, first, second, i);
     }
-    n - k
+    b
 }
 
-fn phase_number(p: Phase) -> u64 {
-    match p {
-        Phase::Plain => 0,
-        Phase::Output => 1,
-        Phase::Positions => 2,
-        Phase::Spoiled => 3,
-    }
-}
-
-// One of the numbers that are told; nothing where there is no room for it.
-pub fn put(out: &mut [u64], i: usize, value: u64) {
-    if i < out.len() {
-        out[i] = value;
-    }
-}
-
-fn tell_places(b: Buffer, out: &mut [u64]) {
-    let phase = b.phase;
-    put(out, 0, b.idx.0 as u64);
-    put(out, 1, b.len.0 as u64);
-    put(out, 2, b.out_len.0 as u64);
-    put(out, 3, phase_number(phase));
-}
-
-fn tell_limits(b: Buffer, out: &mut [u64]) {
-    put(out, 4, b.limits.max_ops as u64);
-    put(out, 5, b.limits.successful as u64);
-    put(out, 6, b.swapped as u64);
-    put(out, 7, b.have_separate_output as u64);
-}
-
-// What a state is, in eight numbers.
+// What a state is, in eight numbers; what there is no room for is not told. A phase's number is its place in the enum.
 pub fn tell(b: Buffer, out: &mut [u64]) {
-    tell_places(b, out);
-    tell_limits(b, out);
+    let told = [
+        b.idx.0 as u64,
+        b.len.0 as u64,
+        b.out_len.0 as u64,
+        b.phase as u64,
+        b.limits.max_ops as u64,
+        b.limits.successful as u64,
+        b.swapped as u64,
+        b.have_separate_output as u64,
+    ];
+    for (place, value) in out.iter_mut().zip(&told) {
+        *place = *value;
+    }
 }
 
 // The rest goes to the output, and the output is the run.

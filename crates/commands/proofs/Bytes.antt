@@ -1,5 +1,6 @@
 -- Renaming the glyph numbers in a string of bytes: it reads as the same calls, reworded, and ends in refusal 6 where the first does.
-use mathlib.Core.{Path.◌≡◌, Path.refl, Path.ap, Path.◌∙◌, Option.Option, Option.none, Option.some, List.List, List.[], List.◌∷◌, List.◌++◌, List.map, List.map-id}
+use mathlib.Core.{Path.◌≡◌, Path.refl, Path.ap, Path.◌∙◌, List.List, List.[], List.◌∷◌, List.◌++◌, List.map, List.map-id}
+use Rattle.std.specs.Prelude.{Option, None as none, Some as some}
 use Prim.Native.Nat.{ℕ, zero, suc, ◌/◌, ◌%◌, ◌<◌}
 use native.Mathlib.Omega.{arith}
 use lib.{ListN.length, ListN.get_or, ListN.take, ListN.drop}

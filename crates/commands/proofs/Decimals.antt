@@ -27,8 +27,8 @@ module _ (n : ℕ) (fits : n < 2 ^ 64) (h : 10 ≤ n) where
   unfolding decimal digits
   more-digits = rw (le-ltb n 10 h) (ap (λ (l : List ℕ). l ++ (digit_of n ∷ [])) (enough 18 (n / 10) (omega arith)))
 
-  pub more-length : length (decimal n) ≡ length (decimal (n / 10)) + 1
-  more-length = ap length more-digits ∙ simp length-append
+  pub more_length : length (decimal n) ≡ length (decimal (n / 10)) + 1
+  more_length = ap length more-digits ∙ simp length-append
 
 -- how many digits there are at most
 short : (k j n : ℕ) → n < 10 ^ suc j → length (digits k n) ≤ suc j
@@ -44,15 +44,15 @@ short (suc k) j n h = tested (ltb n 10) refl j h (short k)
         let fewer : length (digits k (n / 10)) ≤ suc j = r j (n / 10) (omega arith) in
         rw (e, length-append) (omega arith)
 
-pub word-short : (n : ℕ) → n < 2 ^ 32 → length (decimal n) ≤ 10
+pub word_short : (n : ℕ) → n < 2 ^ 32 → length (decimal n) ≤ 10
 unfolding decimal
-word-short n h = short 20 9 n (omega arith)
+word_short n h = short 20 9 n (omega arith)
 
-pub count-short : (n : ℕ) → n < 2 ^ 64 → length (decimal n) ≤ 20
+pub count_short : (n : ℕ) → n < 2 ^ 64 → length (decimal n) ≤ 20
 unfolding decimal
-count-short n h = short 20 19 n (omega arith)
+count_short n h = short 20 19 n (omega arith)
 
 -- what follows the sign of a negative number
-pub negative-short : (w : ℕ) → is_negative w ≡ true → length (decimal (4294967296 - w)) ≤ 10
+pub negative_short : (w : ℕ) → is_negative w ≡ true → length (decimal (4294967296 - w)) ≤ 10
 unfolding is_negative
-negative-short w h = let low : 2147483648 ≤ w = leb-true _ _ h in word-short (4294967296 - w) (omega arith)
+negative_short w h = let low : 2147483648 ≤ w = leb-true _ _ h in word_short (4294967296 - w) (omega arith)

@@ -1,5 +1,6 @@
 -- Document 01's traps, and points where it can be misread, as one table beside that of its starred examples (specs/Table). A case is a script for a fresh buffer, and what it prints.
-use mathlib.Core.{Path.◌≡◌, Path.refl, Bool.cond, Option.none, Option.some, List.List, List.[], List.◌∷◌, List.◌++◌, List.map}
+use mathlib.Core.{Path.◌≡◌, Path.refl, Bool.cond, List.List, List.[], List.◌∷◌, List.◌++◌, List.map}
+use Rattle.std.specs.Prelude.{None as none, Some as some}
 use Prim.Native.Nat.{ℕ, zero, suc}
 use Rattle.records.specs.{Position, Answers.Said, Answers.ok, Answers.ok_with, Answers.no, Counters.words_for, Glyphs.Glyph}
 use Rattle.lists.specs.{Account.Account, Account.len, Account.idx, Account.out_length, Account.positions, Account.fresh_account, Account.Outcome}

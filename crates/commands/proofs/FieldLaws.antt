@@ -26,9 +26,9 @@ read-digits (suc k) n h = tested (ltb n 10) refl (read-digits k (n / 10))
         rw (e, read-append 0 (digits k (n / 10)) (digit_of n ∷ []), r (omega arith)) (omega arith)
 
 -- a number that is printed is the number that is read
-pub number-decimal : (n : ℕ) → n < 2 ^ 64 → number_of (decimal n) ≡ n
+pub number_decimal : (n : ℕ) → n < 2 ^ 64 → number_of (decimal n) ≡ n
 unfolding number_of decimal
-number-decimal n h = read-digits 20 n (omega arith)
+number_decimal n h = read-digits 20 n (omega arith)
 
 -- ---- fields
 -- no space and no line feed

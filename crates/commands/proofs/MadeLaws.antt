@@ -1,10 +1,11 @@
 -- Commands that were made, and what is left: one after the other, and parts one after the other.
+use Rattle.std.specs.Prelude.{Ok, None}
 use mathlib.Core.{Path.◌≡◌, Path.refl, Path.ap, Path.sym, Path.◌∙◌, Bool.Bool, Bool.true, Bool.false, Bool.cond, Bool.and-eq-true_iff, List.List, List.[], List.◌∷◌, List.◌++◌, List.append_assoc, List.append-nil}
 use Prim.Native.Nat.{ℕ, ◌+◌, ◌-◌, ◌<◌, ◌≤◌, ◌^◌}
 use native.Mathlib.Omega.{arith}
 use lib.{Dec.leb, ListN.length, ListN.take, ListN.drop, ListN.length-append, ListN.take-append-drop, Seq.length-take-le}
 use borrow.Author.Tests.{leb-true, leb-false}
-use Rattle.records.specs.{Done, Answers.ok, View.words_from}
+use Rattle.records.specs.{Answers.ok, View.words_from}
 use Rattle.records.proofs.View.{beyond-more}
 use Rattle.lists.proofs.Counted.{account-limits}
 use Rattle.lists.specs.{declared.Buffer.Buffer, declared.Reply.Reply}
@@ -14,7 +15,7 @@ use Rattle.commands.specs.Runs.{last_of, all_no, largest, outcomes, Runs}
 use Rattle.commands.specs.Texts.{longest}
 use Rattle.commands.specs.Texts.{Plays}
 use Rattle.commands.specs.{declared.Step.Step, declared.Played.Played}
-use Rattle.commands.proofs.RunLaws.{ends}
+use Rattle.commands.proofs.RunLaws.{ends, running-less}
 use Rattle.commands.proofs.PlayLaws.{outcomes-on}
 
 -- ---- outcomes in two lists
@@ -76,7 +77,7 @@ pub record Made (t : List ℕ) (at : ℕ) (b₀ : Buffer) (f₀ s₀ f s : List 
   pub stays : all_no made ≡ true → (r.buffer ≡ b₀) × (f ≡ f₀) × (s ≡ s₀)
   pub beyond : (m : ℕ) → largest made ≤ m → (words_from m f ≡ words_from m f₀) × (words_from m s ≡ words_from m s₀)
 
-pub made_none : {t : List ℕ} {at : ℕ} {b₀ : Buffer} {f₀ s₀ : List ℕ} {r : Reply} → r ≡ reply b₀ Done → Made t at r.buffer f₀ s₀ f₀ s₀ r at 0
+pub made_none : {t : List ℕ} {at : ℕ} {b₀ : Buffer} {f₀ s₀ : List ℕ} {r : Reply} → r ≡ reply b₀ (Ok None) → Made t at r.buffer f₀ s₀ f₀ s₀ r at 0
 unfolding last_of
 made_none e =
     rw e (record {
@@ -181,7 +182,7 @@ module _ {t : List ℕ} {b₀ : Buffer} {f₀ s₀ f s : List ℕ} {r : Reply} {
   part-more w room ef es = made_then v (made-plays w ef es) (λ z. omega (arith, w.none z, w.onward h room))
 
 -- all of a string
-pub made-runs : {t : List ℕ} {b₀ : Buffer} {f₀ s₀ f s : List ℕ} {r r₀ : Reply} {next k : ℕ} → r₀ ≡ reply b₀ Done → Made t 0 r₀.buffer f₀ s₀ f s r next k → length t ≤ next → Runs t b₀ f₀ s₀ (record { reply = r; commands = k }) f s
+pub made-runs : {t : List ℕ} {b₀ : Buffer} {f₀ s₀ f s : List ℕ} {r r₀ : Reply} {next k : ℕ} → r₀ ≡ reply b₀ (Ok None) → Made t 0 r₀.buffer f₀ s₀ f s r next k → length t ≤ next → Runs t b₀ f₀ s₀ (record { reply = r; commands = k }) f s
 made-runs {t} {b₀} {f₀} {s₀} {f} {s} {r} {r₀} {next} {k} e u h =
     let v : Made t 0 b₀ f₀ s₀ f s r next k = rw e at u in
     let none : outcomes (drop next t) r.buffer f s ≡ [] = ends (called (sound r.buffer f s) (length f) (length s)) (length (drop next t)) t next (account r.buffer f s) h in
@@ -198,3 +199,5 @@ made-runs {t} {b₀} {f₀} {s₀} {f} {s} {r} {r₀} {next} {k} e u h =
         sounds = v.sounds;
       };
     }
+
+pub ruleset running = (made-fits, made_more, running-less)

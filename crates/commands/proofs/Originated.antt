@@ -1,5 +1,6 @@
 -- After every list of calls each origin is 0 or the number of a push made since fresh, and the pushes that stored a glyph are counted.
-use mathlib.Core.{Path.◌≡◌, Path.refl, Path.ap, Bool.Bool, Bool.true, Bool.false, Bool.cond, Bool.not, Bool.◌&&◌, Option.Option, Option.none, Option.some, List.List, List.[], List.◌∷◌, List.map}
+use mathlib.Core.{Path.◌≡◌, Path.refl, Path.ap, Bool.Bool, Bool.true, Bool.false, Bool.cond, Bool.not, Bool.◌&&◌, List.List, List.[], List.◌∷◌, List.map}
+use Rattle.std.specs.Prelude.{Option, None as none, Some as some}
 use Prim.Native.Nat.{ℕ, suc}
 use native.Mathlib.Omega.{arith}
 use lib.{ListN.length, ListN.get_or}

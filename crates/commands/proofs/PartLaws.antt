@@ -1,10 +1,11 @@
 -- Laws of the run in parts: what is done so far, and what is left.
+use Rattle.std.specs.Prelude.{Ok, None}
 use mathlib.Core.{Path.◌≡◌, Path.refl, Path.ap, Path.sym, Path.◌∙◌, Bool.Bool, Bool.true, Bool.false, Bool.and-eq-true_iff, List.List, List.[], List.◌∷◌, List.◌++◌, List.append_assoc, List.append-nil, List.flat_map}
 use Prim.Native.Nat.{ℕ, zero, suc, ◌+◌, ◌-◌, ◌<◌, ◌≤◌, ◌^◌}
 use native.Mathlib.Omega.{arith}
 use lib.{Dec.ltb, Dec.leb, ListN.length, ListN.get_or, ListN.take, ListN.drop, ListN.length-append, Seq.length-sets, Seq.take_at, Seq.drop_at}
 use borrow.Author.Tests.{ltb-true, leb-true, leb-false, lt-ltb, le-ltb}
-use Rattle.records.specs.{Done, Answers.ok, Answers.said}
+use Rattle.records.specs.{Answers.ok, Answers.said}
 use Rattle.lists.specs.{declared.Buffer.Buffer, declared.Reply.Reply}
 use Rattle.lists.specs.{Account.Outcome, Contract.account, inner.States.reply}
 use Rattle.commands.specs.Runs.{Steps}
@@ -58,7 +59,7 @@ pub record Playing (t : List ℕ) (at : ℕ) (b₀ : Buffer) (f₀ s₀ out₀ f
   pub inside : w ≤ length out₀
 
 module _ {t : List ℕ} {at : ℕ} {b₀ : Buffer} {f₀ s₀ out₀ : List ℕ} where
-  pub playing-none : {r : Reply} → r ≡ reply b₀ Done → length t < 2 ^ 64 → Playing t at r.buffer f₀ s₀ out₀ f₀ s₀ out₀ (record { reply = r; next = at }) 0 0
+  pub playing-none : {r : Reply} → r ≡ reply b₀ (Ok None) → length t < 2 ^ 64 → Playing t at r.buffer f₀ s₀ out₀ f₀ s₀ out₀ (record { reply = r; next = at }) 0 0
   unfolding flat_map
   playing-none e fits = record {
     state = made_none e;
@@ -97,7 +98,7 @@ module _ {t : List ℕ} {at : ℕ} {b₀ : Buffer} {f₀ s₀ out₀ : List ℕ}
           }
 
   -- it ends where no command more is made
-  pub playing-done : {f s out : List ℕ} {x : Step} {k w : ℕ} {r : Reply} {go : Bool} → r ≡ reply b₀ Done → Playing t at r.buffer f₀ s₀ out₀ f s out x k w
+  pub playing-done : {f s out : List ℕ} {x : Step} {k w : ℕ} {r : Reply} {go : Bool} → r ≡ reply b₀ (Ok None) → Playing t at r.buffer f₀ s₀ out₀ f s out x k w
       → Follows x.next (length t) w (length out) go → go ≡ false
       → Plays t at b₀ f₀ s₀ out₀ (record { reply = x.reply; next = x.next; written = w; commands = k }) f s out
   playing-done {f} {s} {out} {x} {k} {w} {r} {go} e u test stop =
@@ -138,3 +139,5 @@ module _ {t : List ℕ} {at : ℕ} {b₀ : Buffer} {f₀ s₀ out₀ : List ℕ}
 
 pub playing-less : {t : List ℕ} {b : Buffer} {f s f' s' : List ℕ} {at w n : ℕ} {r : Step} {go : Bool} → Steps t at b f s r f' s' → Follows at (length t) w n go → go ≡ true → length t - r.next < length t - at
 playing-less u g on = running-less u (goes-more g on)
+
+pub ruleset playing = (goes-more, playing-fits, playing-less, playing-more, playing-done)

@@ -3,8 +3,7 @@ use mathlib.Core.{Path.◌≡◌, Path.refl, Path.sym, Path.ap, Path.ap₂, Path
 use Prim.Native.Nat.{ℕ, zero, suc, ◌+◌, ◌-◌, ◌<◌, ◌≤◌, ◌^◌}
 use native.Mathlib.Omega.{arith}
 use lib.{ListN.length, ListN.get_or, ListN.length-map, ListN.length-append, Seq.get_or_at}
-use Rattle.records.specs.{Position, View.glyphs, View.seen, View.stored}
-use Rattle.records.specs.declared.GlyphInfo.{GlyphInfo}
+use Rattle.records.specs.{View.glyphs, View.stored}
 use Rattle.lists.specs.{Account.Account, Account.positions, Account.spoiled_phase, Contract.account, Contract.sound, Contract.items}
 use Rattle.lists.specs.{declared.Buffer.Buffer, declared.Item.Item, declared.Item.TheVariants.OfDone, declared.Item.TheVariants.OfPassed, declared.Item.TheVariants.OfRest, declared.Item.TheVariants.OfPosition, declared.Item.TheVariants.Nothing}
 use Rattle.lists.proofs.ItemLaws.{items-few, items-most, items-spoiled}
@@ -17,29 +16,6 @@ use Rattle.commands.proofs.TotalLaws.{below_end}
 -- ---- one line
 prints-nothing : {l : List ℕ} {at : ℕ} → Prints [] l at at l
 prints-nothing = record { room = λ k. record { list = refl; next = omega arith }; none = λ k. (refl, refl); short = omega arith }
-
--- the line of each thing that a buffer shows
-module _ {item : Item} {l m : List ℕ} {at r : ℕ} where
-  module _ {g : GlyphInfo} where
-    pub prints-done : item ≡ OfDone g → Prints (glyph_line 111 (seen g)) l at r m → Prints (item_line item) l at r m
-    unfolding item_line
-    prints-done i p = rw i p
-
-    pub prints-passed : item ≡ OfPassed g → Prints (glyph_line 112 (seen g)) l at r m → Prints (item_line item) l at r m
-    unfolding item_line
-    prints-passed i p = rw i p
-
-    pub prints-rest : item ≡ OfRest g → Prints (glyph_line 105 (seen g)) l at r m → Prints (item_line item) l at r m
-    unfolding item_line
-    prints-rest i p = rw i p
-
-  pub prints-placed : {q : Position} → item ≡ OfPosition q → Prints (position_line q) l at r m → Prints (item_line item) l at r m
-  unfolding item_line
-  prints-placed i p = rw i p
-
-pub prints-no-item : {item : Item} {l : List ℕ} {at : ℕ} → item ≡ Nothing → Prints (item_line item) l at at l
-unfolding item_line
-prints-no-item i = rw i prints-nothing
 
 some-place : (k : ℕ) → (k ≡ 0 → ⊥) → k ≡ suc (k - 1)
 some-place k h = omega (arith, h)
@@ -58,8 +34,8 @@ module _ (b : Buffer) (f s : List ℕ) where
       many : n ≡ length (items (account b f s))
       many = rw h at e
 
-      pub count_fits : {j : ℕ} → j < 8 → j + n < 2 ^ 64
-      count_fits j = omega (arith, many, items-most b f s h)
+      pub count_fits : 2 + n < 2 ^ 64
+      count_fits = omega (arith, many, items-most b f s h)
 
       pub lines-counted : 2 + n ≡ length (reported b f s)
       unfolding reported report_lines lines_above
@@ -100,6 +76,8 @@ module _ (b : Buffer) (f s : List ℕ) where
     pub no_lines : 0 ≡ length (reported b f s)
     unfolding reported
     no_lines = rw h
+
+pub ruleset reporting = (count_fits, lines-counted, no_lines)
 
 -- how many there are at most
 module _ (b : Buffer) (f s : List ℕ) where

@@ -1,28 +1,20 @@
 -- Laws of the step: calls of orders, and refusals 6 and 1.
+use Rattle.std.specs.Prelude.{Err}
 use mathlib.Core.{Path.◌≡◌, Path.refl, Path.sym, Path.ap, Path.◌∙◌, Bool.Bool, Bool.true, Bool.false, Bool.cond, Bool.not, Bool.false≢true, List.List}
-use Prim.Native.Nat.{ℕ, ◌+◌, ◌-◌, ◌*◌, ◌<◌, ◌≤◌}
+use Prim.Native.Nat.{ℕ, ◌+◌, ◌*◌, ◌<◌, ◌≤◌}
 use native.Mathlib.Omega.{arith}
-use lib.{Dec.ltb, ListN.length, ListN.take, ListN.drop, ListN.drop_of_length-le, Seq.drop-length}
+use lib.{Dec.ltb, ListN.length, ListN.drop, ListN.drop_of_length-le, Seq.drop-length}
 use borrow.Author.Tests.{ltb-true, ltb-false}
-use Rattle.records.specs.{Contradiction, Unreadable as Unread, No, Bytes.words_at, Bytes.words_of, Counters.capacity_of, Counters.rightly_lent}
-use Rattle.records.proofs.ByteLaws.{words-of-part}
+use Rattle.records.specs.{Contradiction, Unreadable as Unread, Counters.capacity_of, Counters.rightly_lent}
 use Rattle.lists.specs.{declared.Buffer.Buffer, declared.Reply.Reply}
 use Rattle.lists.specs.{Account.Result, Account.refused, Account.outcome, Account.refuse◌when◌else◌, Contract.account, Contract.sound, inner.States.reply, Contract.judged, Contract.Meets}
 use Rattle.lists.proofs.{SoundLaws.sound-lent, Calls.judged-sound, Calls.judged-unsound, Calls.outcome-refused, Calls.untouched, Simple.refuse-no}
-use Rattle.edits.specs.Writing.{replace_glyphs}
-use Rattle.commands.specs.Calls.{Worded, perform, step, c0E-replace-glyphs}
+use Rattle.commands.specs.Calls.{Worded, perform, step}
 use Rattle.commands.specs.Calls.{Read, unreadable, got}
 use Rattle.commands.specs.Reading.{worded_of, reading_of, Reads}
 use Rattle.commands.specs.{Calls.front, Calls.behind, Runs.called, Runs.stepped, Runs.Steps}
-use Rattle.commands.specs.{declared.Order.Order, declared.Reading.Reading, declared.Reading.TheVariants.Command, declared.Reading.TheVariants.Unreadable}
-
--- ---- calls
--- the numbers of 0E, as bytes of the string
-pub listed-call : {b : Buffer} {f s f' s' : List ℕ} {r : Reply} (t : List ℕ) (from num-in num-out : ℕ) → from + 4 * num-out ≤ length t
-    → Meets (λ capacity a. replace_glyphs capacity num-in num-out (words_of (take (from + 4 * num-out - from) (drop from t))) a) b f s r f' s'
-    → Meets (λ capacity a. perform 0 capacity (c0E-replace-glyphs num-in num-out) (words_at t from num-out) a) b f s r f' s'
-unfolding perform
-listed-call t from num-in num-out h m = rw (words-of-part t from (from + 4 * num-out) num-out refl h) at m
+use Rattle.std.specs.Prelude.{Option, Some, None}
+use Rattle.commands.specs.declared.Order.{Order}
 
 -- ---- the step
 is_read : Read (Worded ℕ) → Bool
@@ -31,7 +23,7 @@ is_read (got w l) = true
 
 module _ {t : List ℕ} {at : ℕ} where
   -- a command stands within the string
-  pub command-in : {o : Order} → Reads t at (Command o) → at < length t
+  pub command-in : {o : Order} → Reads t at (Some o) → at < length t
   unfolding front reading_of is_read
   command-in w = tested (ltb at (length t)) refl
     where
@@ -39,9 +31,9 @@ module _ {t : List ℕ} {at : ℕ} where
       tested true e = ltb-true _ _ e
       tested false e = absurd (false≢true (ap is_read (sym (ap front (drop_of_length-le t (ltb-false _ _ e))) ∙ w.is)))
 
-  pub command-known : {o : Order} (r : Reading) → r ≡ Command o → Reads t at r → (o.byte < 39) × (o.byte ≡ 14 → o.numbers + 4 * o.b ≤ length t)
-  command-known {o} r e w =
-      let here : Reads t at (Command o) = rw e at w in
+  pub command_known : {o : Order} (r : Option Order) → r ≡ Some o → Reads t at r → (o.byte < 39) × (o.byte ≡ 14 → o.numbers + 4 * o.b ≤ length t)
+  command_known {o} r e w =
+      let here : Reads t at (Some o) = rw e at w in
       let places = here.places (command-in here) in
       (rw places.byte-is places.known, λ h. rw (← places.listed-end (sym places.byte-is ∙ h)) places.inside)
 
@@ -60,12 +52,12 @@ judged-called w b f s = by (sound b f s) refl
     by true e = judged-sound _ b f s e ∙ ap (outcome (account b f s)) (sym (refuse-no Contradiction act (not (rightly_lent (length f) (length s))) (rw (sound-lent b f s e))))
 
 module _ {t : List ℕ} {at : ℕ} {b : Buffer} {f s : List ℕ} {r : Reply} where
-  pub step-obeyed : {f' s' : List ℕ} (o : Order) (reading : Reading) → reading ≡ Command o → Reads t at reading
+  pub step-obeyed : {f' s' : List ℕ} (o : Order) (reading : Option Order) → reading ≡ Some o → Reads t at reading
       → Meets (λ capacity a. perform 0 capacity (worded_of t o).call (worded_of t o).glyphs a) b f s r f' s'
       → Steps t at b f s (record { reply = r; next = o.next }) f' s'
   unfolding reading_of behind stepped
   step-obeyed o reading e v m =
-      let w : Reads t at (Command o) = rw e at v in
+      let w : Reads t at (Some o) = rw e at v in
       let here : front (drop at t) ≡ got (worded_of t o) (drop o.next t) = w.is in
       let places = w.places (command-in w) in
       record {
@@ -77,10 +69,10 @@ module _ {t : List ℕ} {at : ℕ} {b : Buffer} {f s : List ℕ} {r : Reply} whe
       }
 
   -- refusal 6, which ends the string
-  pub step-unread : (reading : Reading) → reading ≡ Unreadable → Reads t at reading → r ≡ reply b (No Unread) → Steps t at b f s (record { reply = r; next = length t }) f s
+  pub step-unread : (reading : Option Order) → reading ≡ None → Reads t at reading → r ≡ reply b (Err Unread) → Steps t at b f s (record { reply = r; next = length t }) f s
   unfolding reading_of behind stepped
   step-unread reading e' v e =
-      let w : Reads t at Unreadable = rw e' at v in
+      let w : Reads t at None = rw e' at v in
       let here : front (drop at t) ≡ unreadable = w.is in
       rw e (record {
         is = sym (ap (λ (x : Read (Worded ℕ)). stepped x b f s) here ∙ outcome-refused (account b f s) Unread);

@@ -9,7 +9,7 @@ use Rattle.lists.specs.Account.{Account, positions}
 use Rattle.commands.specs.Lines.{lines_above}
 use Rattle.commands.specs.{Totals.no_entry, Totals.no_totals, Totals.plus, Totals.starts, Totals.counted, Totals.counted_below, Totals.read_totals, inner.Counts.groups_below, inner.Counts.groups_of, inner.Counts.marked_of, inner.Counts.list_totals, inner.Counts.totals, inner.Counts.Printable, inner.Counts.AllPrintable}
 use Rattle.commands.specs.declared.Entry.{Entry}
-use Rattle.commands.proofs.FieldLaws.{number-decimal}
+use Rattle.commands.proofs.FieldLaws.{number_decimal}
 use Rattle.commands.proofs.TotalLaws.{taken, entries, lines-read, same-totals, none-plus, plus_none}
 
 -- the entry above what comes next
@@ -26,7 +26,7 @@ module _ (kind : ℕ) where
   taken-words : (l : List (Glyph ℕ)) → Printable l → map (λ g. taken kind g.info) l ≡ map entry_of l
   unfolding taken entry_of
   taken-words [] p = refl
-  taken-words (g ∷ l) p = rw (number-decimal g.info.cluster p.0, number-decimal g.info.mask p.1) (ap (λ (r : List Entry). entry_of g ∷ r) (taken-words l p.2))
+  taken-words (g ∷ l) p = rw (number_decimal g.info.cluster p.0, number_decimal g.info.mask p.1) (ap (λ (r : List Entry). entry_of g ∷ r) (taken-words l p.2))
 
   -- below it stands an entry of another list, where that is of another kind
   last-kind : (other : ℕ) → (kind ≡ other → ⊥) → (l : List (Glyph ℕ)) (above : Entry) → (above.kind ≡ other → ⊥) → (last_entry above (map entry_of l)).kind ≡ other → ⊥

@@ -1,9 +1,8 @@
 -- The line `sum`: what a reader takes from each line, what the lines come to, and that no glyph number counts.
 use mathlib.Core.{Path.◌≡◌, Path.refl, Path.sym, Path.ap, Path.ap₂, Path.◌∙◌, Bool.Bool, Bool.true, Bool.false, Bool.cond, Bool.◌&&◌, List.List, List.[], List.◌∷◌, List.◌++◌, List.map, List.append-nil}
-use Prim.Native.Nat.{ℕ, ◌+◌, ◌*◌, ◌%◌, ◌≤◌, ◌<◌, ◌^◌}
+use Prim.Native.Nat.{ℕ, ◌+◌, ◌*◌, ◌≤◌, ◌<◌, ◌^◌}
 use native.Mathlib.Omega.{arith}
 use native.Mathlib.Numerals.{add-one}
-use borrow.Author.Tests.{eq-eqb, ne_eqb}
 use lib.{Dec.eqb, ListN.length, ListN.get_or, ListN.drop, ListN.drop_of_length-le, Seq.drop-cons}
 use Rattle.records.specs.{Position, Glyphs.Glyph, Glyphs.Info, View.seen, View.stored}
 use Rattle.records.specs.declared.GlyphInfo.{GlyphInfo}
@@ -16,7 +15,7 @@ use Rattle.commands.specs.Lines.{decimal, glyph_line, position_line, counters_li
 use Rattle.commands.specs.Totals.{is_glyph_kind, no_entry, read_line, no_totals, plus, starts, counted, counted_below, read_totals}
 use Rattle.commands.specs.{declared.Entry.Entry, declared.Totals.Totals}
 use Rattle.commands.proofs.LineLaws.{glyph-line}
-use Rattle.commands.proofs.FieldLaws.{number-decimal, plain-decimal, fields-line}
+use Rattle.commands.proofs.FieldLaws.{plain-decimal, fields-line}
 
 -- ---- lines read
 -- what is read of a glyph: nothing of its number
@@ -40,9 +39,6 @@ glyph-read : (kind : ℕ) → is_glyph_kind kind ≡ true → 32 < kind → (g :
 unfolding taken
 glyph-read kind h k g = rw (read-glyph kind h k (seen g), seen-cluster g, seen-mask g) refl
 
-nothing_read : ◌≡◌ {A = Entry} (record { kind = 0; cluster = number_of (decimal 0); mask = number_of (decimal 0) }) no_entry
-nothing_read = rw (number-decimal 0 (omega arith)) refl
-
 -- what the code takes from each thing that a buffer shows is what is read of its line
 module _ {item : Item} {e : Entry} where
   module _ {g : GlyphInfo} where
@@ -58,17 +54,15 @@ module _ {item : Item} {e : Entry} where
     unfolding item_line is_glyph_kind
     entry-rest i is = is ∙ rw i (sym (glyph-read 105 refl (omega arith) g))
 
-  pub entry-placed : {q : Position} → item ≡ OfPosition q → e ≡ record { kind = 0; cluster = number_of (decimal 0); mask = number_of (decimal 0) } → e ≡ read_line (item_line item)
+  pub entry-placed : {q : Position} → item ≡ OfPosition q → e ≡ no_entry → e ≡ read_line (item_line item)
   unfolding item_line
-  entry-placed {q} i is = is ∙ (nothing_read ∙ rw i (sym (read-position q)))
+  entry-placed {q} i is = is ∙ rw i (sym (read-position q))
 
-  pub entry-nothing : item ≡ Nothing → e ≡ record { kind = 0; cluster = number_of (decimal 0); mask = number_of (decimal 0) } → e ≡ read_line (item_line item)
+  pub entry-nothing : item ≡ Nothing → e ≡ no_entry → e ≡ read_line (item_line item)
   unfolding item_line read_line is_glyph_kind
-  entry-nothing i is = is ∙ (nothing_read ∙ rw i refl)
+  entry-nothing i is = is ∙ rw i refl
 
--- a word that is printed is the word that is read
-pub entry_of : (kind : ℕ) {cluster mask : ℕ} → cluster < 2 ^ 32 → mask < 2 ^ 32 → ◌≡◌ {A = Entry} (record { kind = kind; cluster = cluster; mask = mask }) (record { kind = kind; cluster = number_of (decimal cluster); mask = number_of (decimal mask) })
-entry_of kind {cluster} {mask} c m = rw (number-decimal cluster (omega (arith, c)), number-decimal mask (omega (arith, m))) refl
+pub ruleset entered = (entry_done, entry-passed, entry-rest, entry-placed, entry-nothing)
 
 -- ---- the lines of an account
 module _ {G : Type 0} where
@@ -105,6 +99,9 @@ module _ {l g m l' g' m' : ℕ} where
   pub same-totals : l ≡ l' → g ≡ g' → m ≡ m' → ◌≡◌ {A = Totals} (record { lines = l; groups = g; marked = m }) (record { lines = l'; groups = g'; marked = m' })
   same-totals p q r = rw (p, q, r) refl
 
+same-entry : {k c m k' c' m' : ℕ} → k ≡ k' → c ≡ c' → m ≡ m' → ◌≡◌ {A = Entry} (record { kind = k; cluster = c; mask = m }) (record { kind = k'; cluster = c'; mask = m' })
+same-entry p q r = rw (p, q, r) refl
+
 pub none-plus : (t : Totals) → plus no_totals t ≡ t
 unfolding plus
 none-plus t = same-totals (omega arith) (omega arith) (omega arith)
@@ -123,31 +120,9 @@ unfolding read_totals counted_below counted
 below_end a ls = rw (read-end a) (none-plus (counted_below no_entry (map read_line ls)))
 
 -- ---- one line after the other
-module _ (above line : Entry) where
-  pub other-kind : (above.kind ≡ line.kind → ⊥) → 1 ≡ starts above line
-  unfolding starts
-  other-kind h = rw (ne_eqb _ _ h) refl
-
-  pub other-cluster : (above.kind ≡ line.kind) → (above.cluster ≡ line.cluster → ⊥) → 1 ≡ starts above line
-  unfolding starts
-  other-cluster k h = rw (eq-eqb _ _ k, ne_eqb _ _ h) refl
-
-  pub same-group : above.kind ≡ line.kind → above.cluster ≡ line.cluster → 0 ≡ starts above line
-  unfolding starts
-  same-group k h = rw (eq-eqb _ _ k, eq-eqb _ _ h) refl
-
-  module _ (t : Totals) where
-    pub count_none : line.kind ≡ 0 → t ≡ plus t (counted above line)
-    unfolding counted
-    count_none h = rw (eq-eqb _ _ h) (sym (plus_none t))
-
-    pub count-one : {n : ℕ} → (line.kind ≡ 0 → ⊥) → n ≡ starts above line → ◌≡◌ {A = Totals} (record { lines = t.lines + 1; groups = t.groups + n; marked = t.marked + line.mask % 2 }) (plus t (counted above line))
-    unfolding counted plus
-    count-one h e = rw (ne_eqb _ _ h, e) refl
-
-starts-most : (above line : Entry) → starts above line ≤ 1
+pub starts_most : (above line : Entry) → starts above line ≤ 1
 unfolding starts
-starts-most above line = one-or-none (eqb above.kind line.kind && eqb above.cluster line.cluster)
+starts_most above line = one-or-none (eqb above.kind line.kind && eqb above.cluster line.cluster)
   where
     one-or-none : (p : Bool) → cond p 0 1 ≤ 1
     one-or-none true = omega arith
@@ -156,14 +131,14 @@ starts-most above line = one-or-none (eqb above.kind line.kind && eqb above.clus
 three-at-most : (above line : Entry) (t : Bool) → eqb line.kind 0 ≡ t → (counted above line).lines + (counted above line).groups + (counted above line).marked ≤ 3
 unfolding counted
 three-at-most above line true e = rw e (omega arith)
-three-at-most above line false e = rw e (omega (arith, starts-most above line))
+three-at-most above line false e = rw e (omega (arith, starts_most above line))
 
 more-most : (t u : Totals) (k : ℕ) → t.lines + t.groups + t.marked ≤ 3 * k → u.lines + u.groups + u.marked ≤ 3 → (plus t u).lines + (plus t u).groups + (plus t u).marked ≤ 3 * (k + 1)
 unfolding plus
 more-most t u k h o = omega arith
 
 pub group-fits : (above line : Entry) (t : Totals) {n : ℕ} → t.lines + t.groups + t.marked < 2 ^ 32 → n ≡ starts above line → t.groups + n < 2 ^ 64
-group-fits above line t h e = omega (arith, h, e, starts-most above line)
+group-fits above line t h e = omega (arith, h, e, starts_most above line)
 
 -- k things were counted, the last with this entry; the others are to come
 pub record Counting (b : Buffer) (f s : List ℕ) (k : ℕ) (t : Totals) (above : Entry) : Type 0 where
@@ -171,9 +146,12 @@ pub record Counting (b : Buffer) (f s : List ℕ) (k : ℕ) (t : Totals) (above 
   pub fewer : t.lines + t.groups + t.marked ≤ 3 * k
 
 module _ {b : Buffer} {f s : List ℕ} where
-  pub counting-none : {above : Entry} → above ≡ record { kind = 0; cluster = number_of (decimal 0); mask = number_of (decimal 0) } → Counting b f s 0 no_totals above
+  pub counting-none : {t : Totals} {above : Entry} → (t.lines ≡ 0) × ((t.groups ≡ 0) × (t.marked ≡ 0)) → (above.kind ≡ 0) × ((above.cluster ≡ 0) × (above.mask ≡ 0)) → Counting b f s 0 t above
   unfolding read_totals
-  counting-none e = record { to-come = rw (e, nothing_read) (none-plus _); fewer = omega arith }
+  counting-none {t} {above} et ea =
+      let none : t ≡ no_totals = same-totals et.0 et.1.0 et.1.1 in
+      let first : above ≡ no_entry = same-entry ea.0 ea.1.0 ea.1.1 in
+      rw (none, first) (record { to-come = none-plus _; fewer = omega arith })
 
   module _ {k n : ℕ} {t : Totals} {above : Entry} (v : Counting b f s k t above) (h : sound b f s ≡ true) (en : n ≡ cond (sound b f s) (length (items (account b f s))) 0) where
     pub counting_more : {item : Item} {line : Entry} {u : Totals} → k < n → item ≡ cond (sound b f s) (get_or (items (account b f s)) k Nothing) Nothing → line ≡ read_line (item_line item) → u ≡ plus t (counted above line) → Counting b f s (k + 1) u line
@@ -222,3 +200,5 @@ last-line-forgets f a = ap sum_line (lines-read a ∙ ap (counted_below no_entry
 
 pub same-last-line : {H : Type 0} (f : ℕ → H) (a b : Account ℕ) → renamed f a ≡ renamed f b → last_line a ≡ last_line b
 same-last-line f a b e = last-line-forgets f a ∙ (ap sum_of e ∙ sym (last-line-forgets f b))
+
+pub ruleset counting = (counting-none, counting-all, counting-room)

@@ -1,6 +1,7 @@
 -- The calls 00 to 26, what each comes to, and a list of them.
 use Rattle.std.specs.Prelude.{◌∷◌}
-use Rattle.records.specs.Library.{ℕ, zero, suc, true, false, cond, not, eqb, Option, none, some, List, [], length, take, drop, get_or}
+use Rattle.records.specs.Library.{ℕ, zero, suc, true, false, cond, not, eqb, List, [], length, take, drop, get_or}
+use Rattle.std.specs.Prelude.{Option, None as none, Some as some}
 use Rattle.records.specs.{DonePlace, InputPlace, Contradiction, Unreadable, Bytes.word, Counters.capacity_of, Counters.rightly_lent, Glyphs.zero_position}
 use Rattle.lists.specs.{Account.Account, Account.Result, Account.Outcome, Account.refused, Account.outcome, Account.refuse◌when◌else◌}
 use Rattle.lists.specs.Cursor.{fresh, enter, leave, allocate_lig_id, clear_output, clear_positions, next_glyphs, skip_glyph, sync, move_to}

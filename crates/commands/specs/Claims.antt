@@ -1,7 +1,8 @@
 -- What the customer's demands 2 and 3 and the course regulations claim of whole lists of calls, as types. proofs/Claims has a theorem of each, and
 -- `commands::runs::begin`, which makes the first buffer, promises them. Demand 1 is promised call by call: `Meets` (lists, Contract), `Steps` (Runs).
 use Rattle.std.specs.Prelude.{◌/◌, ◌%◌, ◌≤◌, ◌<◌, ◌∷◌, ◌++◌, ◌≡◌}
-use Rattle.records.specs.Library.{ℕ, zero, suc, some, List, [], map, length}
+use Rattle.records.specs.Library.{ℕ, zero, suc, List, [], map, length}
+use Rattle.std.specs.Prelude.{Some as some}
 use Rattle.records.specs.{Bytes.word, Glyphs.Glyph}
 use Rattle.lists.specs.{Account.Account, Account.len, Account.idx, Account.out_length, Account.positions, Account.fresh_account, Account.renamed}
 use Rattle.lists.specs.{Account.Outcome, Contract.account, Contract.outcome_of, Contract.Meets, declared.Buffer.Buffer, declared.Reply.Reply}

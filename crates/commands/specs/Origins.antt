@@ -1,6 +1,7 @@
 -- Where glyphs came from (document 02, N8): origins and the count of pushes, after every call of a list from fresh.
 use Rattle.std.specs.Prelude.{◌≤◌, ◌&&◌, ◌∷◌, ◌≡◌}
-use Rattle.records.specs.Library.{ℕ, suc, min, cond, not, Option, none, some, List, []}
+use Rattle.records.specs.Library.{ℕ, suc, min, cond, not, List, []}
+use Rattle.std.specs.Prelude.{Option, None as none, Some as some}
 use Rattle.records.specs.{Glyphs.Glyph, Ranges.is}
 use Rattle.lists.specs.{Account.Account, Account.len, Account.Outcome, Contract.is_no}
 use Rattle.commands.specs.Calls.{Call, Worded, command_byte}

@@ -1,24 +1,24 @@
 -- What an answer of the reader stands for: what the account reads from the same bytes.
 use Rattle.std.specs.Prelude.{◌+◌, ◌*◌, ◌≤◌, ◌<◌, ◌∷◌, ◌≡◌}
+use Rattle.std.specs.Prelude.{Option, Some, None}
 use Rattle.records.specs.Library.{ℕ, suc, List, [], length, take, drop, get_or}
 use Rattle.records.specs.Bytes.{words_at}
-use Rattle.commands.specs.{declared.Order.Order, declared.Reading.Reading, declared.Reading.TheVariants.Command}
-use Rattle.commands.specs.{declared.Reading.TheVariants.Unreadable, declared.Operands.Operands, declared.Operands.TheVariants.Words}
-use Rattle.commands.specs.{declared.Operands.TheVariants.Listed, declared.Operands.TheVariants.Unknown, declared.Taken.Taken}
+use Rattle.commands.specs.{declared.Order.Order, declared.Operands.Operands, declared.Operands.TheVariants.Words}
+use Rattle.commands.specs.{declared.Operands.TheVariants.Listed, declared.Taken.Taken}
 use Rattle.commands.specs.Calls.{Worded, c03-clear-output, Read, unreadable, got, Form, unknown, operands, glyph_and, listed, form_of, front}
 
--- what follows a command byte (`Order`, `Operands`, `Reading`, `Taken`: src/lib.rt)
-unfoldable pub operands_of : Form → Operands
-operands_of unknown = Unknown
-operands_of (operands n k) = Words n
-operands_of (glyph_and n k) = Words (suc n)
-operands_of (listed k) = Listed
+-- what follows a command byte, if it is one (`Order`, `Operands`, `Taken`: src/lib.rt)
+unfoldable pub operands_of : Form → Option Operands
+operands_of unknown = None
+operands_of (operands n k) = Some (Words n)
+operands_of (glyph_and n k) = Some (Words (suc n))
+operands_of (listed k) = Some Listed
 
 -- how many operands there are, the list of 0E not counted
-unfoldable pub count : Operands → ℕ
-count Unknown = 0
-count (Words n) = n
-count Listed = 2
+unfoldable pub count : Option Operands → ℕ
+count None = 0
+count (Some (Words n)) = n
+count (Some Listed) = 2
 
 -- the call that a form makes of its operands ws, and of the out numbers gs of 0E. No order has an unknown byte
 unfoldable pub made : Form → (ws gs : List ℕ) → Worded ℕ
@@ -34,9 +34,10 @@ ordered o gs = made (form_of o.byte) (take (count (operands_of (form_of o.byte))
 unfoldable pub worded_of : List ℕ → Order → Worded ℕ
 worded_of s o = ordered o (words_at s o.numbers o.b)
 
-unfoldable pub reading_of : List ℕ → Reading → Read (Worded ℕ)
-reading_of s Unreadable = unreadable
-reading_of s (Command o) = got (worded_of s o) (drop o.next s)
+-- an order that was read, or none
+unfoldable pub reading_of : List ℕ → Option Order → Read (Worded ℕ)
+reading_of s None = unreadable
+reading_of s (Some o) = got (worded_of s o) (drop o.next s)
 
 -- places of an order that was read; 39 is the byte after 26, and 14 is 0E
 pub record Ordered (s : List ℕ) (byte from : ℕ) (o : Order) : Type 0 where
@@ -46,20 +47,20 @@ pub record Ordered (s : List ℕ) (byte from : ℕ) (o : Order) : Type 0 where
   pub inside : o.next ≤ length s
   pub listed-end : byte ≡ 14 → o.next ≡ o.numbers + 4 * o.b
 
-abbrev pub IsOrdered : List ℕ → (byte from : ℕ) → Reading → Type 0
-IsOrdered s byte from Unreadable = Unit {0}
-IsOrdered s byte from (Command o) = Ordered s byte from o
+abbrev pub IsOrdered : List ℕ → (byte from : ℕ) → Option Order → Type 0
+IsOrdered s byte from None = Unit {0}
+IsOrdered s byte from (Some o) = Ordered s byte from o
 
 -- what is read at a place; past the end nothing can be read
-pub record Reads (s : List ℕ) (at : ℕ) (r : Reading) : Type 0 where
+pub record Reads (s : List ℕ) (at : ℕ) (r : Option Order) : Type 0 where
   pub is : front (drop at s) ≡ reading_of s r
   pub places : at < length s → IsOrdered s (get_or s at 0) (at + 1) r
 
 -- ---- a reader that keeps its bytes: "a struct holding the script slice and its place".
 -- the place after what was read; "Bytes end at their first refusal 6"
-unfoldable pub place_after : List ℕ → Reading → ℕ
-place_after s Unreadable = length s
-place_after s (Command o) = o.next
+unfoldable pub place_after : List ℕ → Option Order → ℕ
+place_after s None = length s
+place_after s (Some o) = o.next
 
 pub record Takes (s : List ℕ) (at : ℕ) (t : Taken) : Type 0 where
   pub reads : Reads s at t.reading

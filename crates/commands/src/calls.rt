@@ -2,37 +2,53 @@
 ghost use Rattle.std.specs.Prelude.{◌≡◌, [], ◌∷◌, ◌+◌, ◌*◌, ◌<◌, ◌≤◌, length};
 ghost use Rattle.records.specs.Bytes.{words_at};
 ghost use Rattle.lists.specs.Contract.{Meets};
-ghost use Rattle.edits.specs.Flags.{input_bound, done_bound};
 ghost use Rattle.commands.specs.Calls.{bound, input_place, done_place};
 ghost use Rattle.commands.specs.Calls.{perform, c0C-output-info, c0E-replace-glyphs, c15-unsafe-to-break, c16-unsafe-to-concat, c17-safe-to-insert-tatweel, c18-unsafe-to-break-from-outbuffer, c19-unsafe-to-concat-from-outbuffer};
 ghost use Rattle.commands.specs.Reading.{worded_of};
 
 use super::Order;
-use edits::{DoneBound, InputBound};
 use lists::{Buffer, Reply};
 use records::{DonePlace, GlyphInfo, InputPlace};
 
 // A bound in the input. The highest word is an open one.
-fn input_bound(w: u32) -> InputBound
-    ensures { input_bound result ≡ bound (λ k. input_place k) w }
+#[tactic(auto, unfolding(crate::specs::Calls::bound, crate::specs::Calls::input_place))]
+fn input_bound(w: u32) -> Option<InputPlace>
+    ensures { result ≡ bound (λ k. input_place k) w }
 {
     if w == 0xFFFFFFFF {
-        return InputBound::Open;
+        return None;
     }
-    InputBound::At(InputPlace(w as usize))
+    Some(InputPlace(w as usize))
 }
 
 // A bound in *done*.
-fn done_bound(w: u32) -> DoneBound
-    ensures { done_bound result ≡ bound (λ k. done_place k) w }
+#[tactic(auto, unfolding(crate::specs::Calls::bound, crate::specs::Calls::done_place))]
+fn done_bound(w: u32) -> Option<DonePlace>
+    ensures { result ≡ bound (λ k. done_place k) w }
 {
     if w == 0xFFFFFFFF {
-        return DoneBound::Open;
+        return None;
     }
-    DoneBound::At(DonePlace(w as usize))
+    Some(DonePlace(w as usize))
+}
+
+// A word as a place in the input, and in *done*.
+#[tactic(auto, unfolding(crate::specs::Calls::input_place))]
+fn input(w: u32) -> InputPlace
+    ensures { result ≡ input_place w }
+{
+    InputPlace(w as usize)
+}
+
+#[tactic(auto, unfolding(crate::specs::Calls::done_place))]
+fn done(w: u32) -> DonePlace
+    ensures { result ≡ done_place w }
+{
+    DonePlace(w as usize)
 }
 
 // 0C: a glyph of an order's operands.
+#[tactic(auto, using(crate::proofs::CallLaws::operand_laws), unfolding(crate::specs::Calls::perform))]
 fn output_info(b: Buffer, first: &mut [u32], second: &mut [u32], o: Order) -> Reply
     ensures { Meets (λ capacity a. perform 0 capacity (c0C-output-info o.b o.c o.d o.e) (o.a ∷ []) a) b first.old second.old result first.new second.new }
 {
@@ -48,6 +64,7 @@ fn output_info(b: Buffer, first: &mut [u32], second: &mut [u32], o: Order) -> Re
 }
 
 // 0E: its glyph numbers stand in the string.
+#[tactic(auto, using(crate::proofs::CallLaws::operand_laws), unfolding(crate::specs::Calls::perform))]
 fn replace_glyphs(
     b: Buffer,
     first: &mut [u32],
@@ -73,6 +90,7 @@ fn replace_glyphs(
 }
 
 // 15 to 19 take bounds.
+#[tactic(auto, unfolding(crate::specs::Calls::perform))]
 fn unsafe_to_break(b: Buffer, first: &mut [u32], second: &mut [u32], s: u32, e: u32) -> Reply
     ensures { Meets (λ capacity a. perform 0 capacity (c15-unsafe-to-break (bound (λ k. input_place k) s) (bound (λ k. input_place k) e)) [] a) b first.old second.old result first.new second.new }
 {
@@ -81,6 +99,7 @@ fn unsafe_to_break(b: Buffer, first: &mut [u32], second: &mut [u32], s: u32, e: 
     edits::flagging::unsafe_to_break(b, first, second, start, end)
 }
 
+#[tactic(auto, unfolding(crate::specs::Calls::perform))]
 fn unsafe_to_concat(b: Buffer, first: &mut [u32], second: &mut [u32], s: u32, e: u32) -> Reply
     ensures { Meets (λ capacity a. perform 0 capacity (c16-unsafe-to-concat (bound (λ k. input_place k) s) (bound (λ k. input_place k) e)) [] a) b first.old second.old result first.new second.new }
 {
@@ -89,6 +108,7 @@ fn unsafe_to_concat(b: Buffer, first: &mut [u32], second: &mut [u32], s: u32, e:
     edits::flagging::unsafe_to_concat(b, first, second, start, end)
 }
 
+#[tactic(auto, unfolding(crate::specs::Calls::perform))]
 fn safe_to_insert_tatweel(b: Buffer, first: &mut [u32], second: &mut [u32], s: u32, e: u32) -> Reply
     ensures { Meets (λ capacity a. perform 0 capacity (c17-safe-to-insert-tatweel (bound (λ k. input_place k) s) (bound (λ k. input_place k) e)) [] a) b first.old second.old result first.new second.new }
 {
@@ -97,6 +117,7 @@ fn safe_to_insert_tatweel(b: Buffer, first: &mut [u32], second: &mut [u32], s: u
     edits::flagging::safe_to_insert_tatweel(b, first, second, start, end)
 }
 
+#[tactic(auto, unfolding(crate::specs::Calls::perform))]
 fn unsafe_to_break_from_outbuffer(
     b: Buffer,
     first: &mut [u32],
@@ -111,6 +132,7 @@ fn unsafe_to_break_from_outbuffer(
     edits::flagging::unsafe_to_break_from_outbuffer(b, first, second, start, end)
 }
 
+#[tactic(auto, unfolding(crate::specs::Calls::perform))]
 fn unsafe_to_concat_from_outbuffer(
     b: Buffer,
     first: &mut [u32],
@@ -126,6 +148,7 @@ fn unsafe_to_concat_from_outbuffer(
 }
 
 // The call of an order that was read from a string. 26 is the last command byte.
+#[tactic(auto, unfolding(crate::specs::Calls::forms, crate::specs::Calls::operand, crate::specs::Calls::input_place, crate::specs::Calls::done_place, crate::specs::Calls::perform, crate::specs::Reading::operands_of, crate::specs::Reading::count, crate::specs::Reading::made, crate::specs::Reading::ordered, crate::specs::Reading::worded_of))]
 pub(crate) fn call(
     b: Buffer,
     first: &mut [u32],
@@ -144,16 +167,7 @@ pub(crate) fn call(
         0x03 => lists::cursor::clear_output(b, first, second),
         0x04 => lists::cursor::sync(b, first, second),
         0x05 => lists::cursor::clear_positions(b, first, second),
-        0x06 => edits::filling::place(
-            b,
-            first,
-            second,
-            InputPlace(o.a as usize),
-            o.b,
-            o.c,
-            o.d,
-            o.e,
-        ),
+        0x06 => edits::filling::place(b, first, second, input(o.a), o.b, o.c, o.d, o.e),
         0x07 => lists::cursor::next_glyph(b, first, second),
         0x08 => lists::cursor::next_glyphs(b, first, second, o.a as usize),
         0x09 => lists::cursor::skip_glyph(b, first, second),
@@ -164,34 +178,10 @@ pub(crate) fn call(
         0x0E => replace_glyphs(b, first, second, script, o),
         0x0F => edits::deleting::delete_glyph(b, first, second),
         0x10 => lists::cursor::move_to(b, first, second, o.a as usize),
-        0x11 => edits::merges::merge_clusters(
-            b,
-            first,
-            second,
-            InputPlace(o.a as usize),
-            InputPlace(o.b as usize),
-        ),
-        0x12 => edits::merges::merge_out_clusters(
-            b,
-            first,
-            second,
-            DonePlace(o.a as usize),
-            DonePlace(o.b as usize),
-        ),
-        0x13 => edits::merges::merge_grapheme_clusters(
-            b,
-            first,
-            second,
-            InputPlace(o.a as usize),
-            InputPlace(o.b as usize),
-        ),
-        0x14 => edits::merges::merge_out_grapheme_clusters(
-            b,
-            first,
-            second,
-            DonePlace(o.a as usize),
-            DonePlace(o.b as usize),
-        ),
+        0x11 => edits::merges::merge_clusters(b, first, second, input(o.a), input(o.b)),
+        0x12 => edits::merges::merge_out_clusters(b, first, second, done(o.a), done(o.b)),
+        0x13 => edits::merges::merge_grapheme_clusters(b, first, second, input(o.a), input(o.b)),
+        0x14 => edits::merges::merge_out_grapheme_clusters(b, first, second, done(o.a), done(o.b)),
         0x15 => unsafe_to_break(b, first, second, o.a, o.b),
         0x16 => unsafe_to_concat(b, first, second, o.a, o.b),
         0x17 => safe_to_insert_tatweel(b, first, second, o.a, o.b),
@@ -199,25 +189,11 @@ pub(crate) fn call(
         0x19 => unsafe_to_concat_from_outbuffer(b, first, second, o.a, o.b),
         0x1A => edits::relabeling::set_masks(b, first, second, o.a, o.b, o.c, o.d),
         0x1B => edits::reversing::reverse(b, first, second),
-        0x1C => edits::reversing::reverse_range(
-            b,
-            first,
-            second,
-            InputPlace(o.a as usize),
-            InputPlace(o.b as usize),
-        ),
+        0x1C => edits::reversing::reverse_range(b, first, second, input(o.a), input(o.b)),
         0x1D => edits::reversing::reverse_clusters(b, first, second),
         0x1E => edits::reversing::reverse_graphemes(b, first, second, o.a, o.b),
         0x1F => edits::relabeling::reset_clusters(b, first, second),
-        0x20 => edits::sorting::sort(
-            b,
-            first,
-            second,
-            InputPlace(o.a as usize),
-            InputPlace(o.b as usize),
-            o.c,
-            o.d,
-        ),
+        0x20 => edits::sorting::sort(b, first, second, input(o.a), input(o.b), o.c, o.d),
         0x21 => edits::deleting_inplace::delete_glyphs_inplace(b, first, second, o.a, o.b, o.c),
         0x22 => edits::grouping::form_clusters(b, first, second, o.a, o.b),
         0x23 => edits::propagating::propagate_flags(b, first, second),

@@ -10,6 +10,7 @@ use super::{Entry, Totals};
 use lists::{Buffer, Item};
 
 // What is read of words that are printed: the words. Kind 0 stands for a line that is no glyph's.
+#[tactic(auto, using(crate::proofs::FieldLaws::number_decimal))]
 fn entry_of(kind: u8, cluster: u32, mask: u32) -> Entry
     ensures { result ≡ record { kind = kind; cluster = number_of (decimal cluster); mask = number_of (decimal mask) } }
 {
@@ -21,6 +22,7 @@ fn entry_of(kind: u8, cluster: u32, mask: u32) -> Entry
 }
 
 // What a reader takes from the line of one thing that a buffer shows.
+#[tactic(auto, using(crate::proofs::TotalLaws::entered))]
 fn entry(item: Item) -> Entry
     ensures { result ≡ read_line (item_line item) }
 {
@@ -28,25 +30,21 @@ fn entry(item: Item) -> Entry
         Item::OfDone(g) => entry_of(b'o', g.cluster, g.mask),
         Item::OfPassed(g) => entry_of(b'p', g.cluster, g.mask),
         Item::OfRest(g) => entry_of(b'i', g.cluster, g.mask),
-        Item::OfPosition(_) => entry_of(0, 0, 0),
-        Item::Nothing => entry_of(0, 0, 0),
+        Item::OfPosition(_) => Entry::default(),
+        Item::Nothing => Entry::default(),
     }
 }
 
 // How many groups a line starts: 1 or 0.
+#[tactic(auto, unfolding(crate::specs::Totals::starts))]
 fn started(above: Entry, line: Entry) -> usize
     ensures { result ≡ starts above line }
 {
-    if above.kind != line.kind {
-        return 1;
-    }
-    if above.cluster != line.cluster {
-        return 1;
-    }
-    0
+    usize::from(above.kind != line.kind || above.cluster != line.cluster)
 }
 
 // With one line more.
+#[tactic(auto, using(crate::proofs::TotalLaws::starts_most), unfolding(crate::specs::Totals::plus, crate::specs::Totals::counted))]
 fn count(t: Totals, above: Entry, line: Entry) -> Totals
     requires { t.lines + t.groups + t.marked < 2 ^ 32 }
     ensures { result ≡ plus t (counted above line) }
@@ -63,17 +61,14 @@ fn count(t: Totals, above: Entry, line: Entry) -> Totals
 }
 
 // What a reader counts from the lines of all that a buffer shows.
+#[tactic(auto, using(crate::proofs::TotalLaws::counting))]
 pub(crate) fn totals(b: Buffer, first: &[u32], second: &[u32]) -> Totals
     requires { sound b first.now second.now ≡ true }
     ensures { result ≡ read_totals (map item_line (items (account b first.now second.now))) }
 {
     let n = lists::items::item_count(b, first, second);
-    let mut t = Totals {
-        lines: 0,
-        groups: 0,
-        marked: 0,
-    };
-    let mut above = entry_of(0, 0, 0);
+    let mut t = Totals::default();
+    let mut above = Entry::default();
     for k in 0..n {
         let item = lists::items::item(b, first, second, k);
         let line = entry(item);

@@ -8,7 +8,6 @@ use lists::Reply;
 mod calls;
 mod columns;
 mod counting;
-mod digits;
 pub mod lines;
 pub mod playing;
 pub mod reader;
@@ -17,10 +16,10 @@ pub mod runs;
 pub mod scripts;
 pub mod steps;
 pub mod texts;
-mod words;
+mod writer;
 
-// A command as it was read: its byte, its first five operands (0 where it has fewer), where glyph numbers of its own
-// start, and where the next command does.
+// A command as it was read: its byte, its first five operands (0 where it has fewer; each by a name, as specs/Reading has them),
+// where glyph numbers of its own start, and where the next command does.
 #[derive(Clone, Copy)]
 pub struct Order {
     pub byte: u8,
@@ -33,17 +32,10 @@ pub struct Order {
     pub next: usize,
 }
 
-// What is read at a place.
-#[derive(Clone, Copy)]
-pub enum Reading {
-    Command(Order),
-    Unreadable,
-}
-
-// What was read, and the place after it.
+// What was read, if it can be read, and the place after it.
 #[derive(Clone, Copy)]
 pub struct Taken {
-    pub reading: Reading,
+    pub reading: Option<Order>,
     pub next: usize,
 }
 
@@ -59,7 +51,6 @@ pub struct Script<'a> {
 pub enum Operands {
     Words(usize),
     Listed,
-    Unknown,
 }
 
 // What a step gives back: the call's reply, and where the next command starts.
@@ -86,8 +77,8 @@ pub struct Played {
     pub commands: usize,
 }
 
-// What a reader takes from the line of a glyph. Kind 0 stands for any other line.
-#[derive(Clone, Copy)]
+// What a reader takes from the line of a glyph. Kind 0 stands for any other line, so that lines are compared by their kinds alone.
+#[derive(Clone, Copy, Default)]
 pub struct Entry {
     pub kind: u8,
     pub cluster: u32,
@@ -95,7 +86,7 @@ pub struct Entry {
 }
 
 // The numbers of the line `sum`: glyph lines, groups of equal cluster, glyph lines with mask bit 0.
-#[derive(Clone, Copy)]
+#[derive(Clone, Copy, Default)]
 pub struct Totals {
     pub lines: usize,
     pub groups: usize,

@@ -1,170 +1,171 @@
-// The printed lines, written into a lent slice at a place. Each function gives the place after what it wrote.
-ghost use Rattle.std.specs.Prelude.{◌≡◌, cond, [], ◌∷◌, map, ◌+◌, ◌≤◌, length, leb};
+// The printed lines, each written into a lent slice at a place where the longest has room.
+ghost use Rattle.std.specs.Prelude.{◌≡◌, cond, List, ℕ, ◌+◌, ◌≤◌, length, leb};
 ghost use Rattle.records.specs.Answers.{said};
 ghost use Rattle.records.specs.View.{seen};
 ghost use Rattle.lists.specs.Account.{spoiled_phase};
-ghost use Rattle.commands.specs.{Lines.answer_line, inner.Writes.end_line_of, Lines.decimal, Lines.ending, Lines.glyph_line, Lines.position_line, Lines.sum_line, Texts.Wrote, Texts.Prints, Texts.longest};
+ghost use Rattle.commands.specs.{Lines.answer_line, Lines.glyph_line, Lines.position_line, inner.Writes.Puts, Texts.Prints, Texts.longest};
 
-use super::{Totals, digits, words};
-use lists::{Buffer, state};
+use super::Totals;
+use super::writer::Writer;
+use lists::{Buffer, Item, state};
 use records::{Answer, GlyphInfo, Position};
 
-// The command, ` ok` or ` no`, and a number if any.
-fn put_answer(out: &mut [u8], at: usize, byte: u8, answer: Answer) -> usize
-    requires { at + longest ≤ length out.old }
-    ensures wrote { Wrote (answer_line byte (said answer)) out.old at result out.new }
-    ensures upper_bound { result ≤ at + longest }
-{
-    let k = digits::put_hex(out, at, byte);
-    match answer {
-        Answer::Done => {
-            let k = words::put_three(out, k, b' ', b'o', b'k');
-            digits::put(out, k, b'\n')
-        }
-        Answer::Value(v) => {
-            let k = words::put_three(out, k, b' ', b'o', b'k');
-            let k = words::put_word(out, k, v);
-            digits::put(out, k, b'\n')
-        }
-        Answer::No(why) => {
-            let k = words::put_three(out, k, b' ', b'n', b'o');
-            let k = words::put_word(out, k, records::counters::refusal_number(why));
-            digits::put(out, k, b'\n')
+// What a line is printed of, and its bytes.
+pub(crate) trait Line {
+    ghost bytes: { Self → List ℕ };
+
+    fn write(&self, w: &mut Writer)
+        requires { w.old.at + longest ≤ length w.old.out.now }
+        ensures puts { Puts (bytes self.now) w.old w.new }
+        ensures upper_bound { w.new.at ≤ w.old.at + longest };
+}
+
+// A command and what it answered: ` ok` or ` no`, and a number if any.
+#[derive(Clone, Copy)]
+struct Answered {
+    byte: u8,
+    answer: Answer,
+}
+
+impl Line for Answered {
+    ghost use Rattle.records.specs.Answers.{said};
+    ghost use Rattle.commands.specs.Lines.{answer_line};
+
+    ghost bytes = { λ a. answer_line a.byte (said a.answer) };
+
+    fn write(&self, w: &mut Writer) {
+        w.put_hex(self.byte);
+        match self.answer {
+            Ok(value) => match value {
+                None => w.put_all(b" ok\n"),
+                Some(v) => {
+                    w.put_all(b" ok");
+                    w.put_word(v);
+                    w.put(b'\n');
+                }
+            },
+            Err(why) => {
+                w.put_all(b" no");
+                w.put_word(u32::from(why));
+                w.put(b'\n');
+            }
         }
     }
 }
 
-// The variables and the origin of a glyph, and the end of its line.
-fn put_variables(out: &mut [u8], at: usize, g: GlyphInfo) -> usize
-    requires { at + 34 ≤ length out.old }
-    ensures wrote { Wrote (ending (map decimal (g.var0 ∷ g.var1 ∷ g.origin ∷ []))) out.old at result out.new }
-    ensures upper_bound { result ≤ at + 34 }
+// A line `o`, `p` or `i`, as its kind says.
+fn write_glyph(w: &mut Writer, kind: u8, g: GlyphInfo)
+    requires { w.old.at + longest ≤ length w.old.out.now }
+    ensures puts { Puts (glyph_line kind (seen g)) w.old w.new }
+    ensures upper_bound { w.new.at ≤ w.old.at + longest }
 {
-    let k = words::put_word(out, at, g.var0);
-    let k = words::put_word(out, k, g.var1);
-    let k = words::put_word(out, k, g.origin);
-    digits::put(out, k, b'\n')
+    w.put(kind);
+    w.put_word(g.glyph);
+    w.put_word(g.cluster);
+    w.put_word(g.mask);
+    w.put_word(g.var0);
+    w.put_word(g.var1);
+    w.put_word(g.origin);
+    w.put(b'\n');
 }
 
-fn put_glyph(out: &mut [u8], at: usize, kind: u8, g: GlyphInfo) -> usize
-    requires { at + longest ≤ length out.old }
-    ensures wrote { Wrote (glyph_line kind (seen g)) out.old at result out.new }
-    ensures upper_bound { result ≤ at + longest }
+// A line `x`.
+fn write_position(w: &mut Writer, p: Position)
+    requires { w.old.at + longest ≤ length w.old.out.now }
+    ensures puts { Puts (position_line p) w.old w.new }
+    ensures upper_bound { w.new.at ≤ w.old.at + longest }
 {
-    let k = digits::put(out, at, kind);
-    let k = words::put_word(out, k, g.glyph);
-    let k = words::put_word(out, k, g.cluster);
-    let k = words::put_word(out, k, g.mask);
-    put_variables(out, k, g)
+    w.put(b'x');
+    w.put_signed_word(p.x_advance);
+    w.put_signed_word(p.y_advance);
+    w.put_signed_word(p.x_offset);
+    w.put_signed_word(p.y_offset);
+    w.put_word(p.var);
+    w.put(b'\n');
 }
 
-fn put_position(out: &mut [u8], at: usize, p: Position) -> usize
-    requires { at + longest ≤ length out.old }
-    ensures wrote { Wrote (position_line p) out.old at result out.new }
-    ensures upper_bound { result ≤ at + longest }
-{
-    let k = digits::put(out, at, b'x');
-    let k = words::put_signed_word(out, k, p.x_advance);
-    let k = words::put_signed_word(out, k, p.y_advance);
-    let k = words::put_signed_word(out, k, p.x_offset);
-    let k = words::put_signed_word(out, k, p.y_offset);
-    let k = words::put_word(out, k, p.var);
-    digits::put(out, k, b'\n')
+// The line of one thing that a buffer shows.
+impl Line for Item {
+    ghost use Rattle.commands.specs.Lines.{item_line};
+
+    ghost bytes = { item_line };
+
+    #[tactic(auto, unfolding(crate::specs::Lines::item_line))]
+    fn write(&self, w: &mut Writer) {
+        match *self {
+            Item::OfDone(g) => write_glyph(w, b'o', g),
+            Item::OfPassed(g) => write_glyph(w, b'p', g),
+            Item::OfRest(g) => write_glyph(w, b'i', g),
+            Item::OfPosition(p) => write_position(w, p),
+            Item::Nothing => (),
+        }
+    }
 }
 
 // The cursor, which a spoiled buffer does not show.
-fn shown_idx(b: Buffer) -> usize
-    ensures { result ≡ cond (spoiled_phase b.phase) 0 b.idx.0 }
+fn shown_idx(b: &Buffer) -> usize
+    ensures { result ≡ cond (spoiled_phase b.now.phase) 0 b.now.idx.0 }
 {
-    let phase = b.phase;
-    if state::is_spoiled(phase) {
+    if state::is_spoiled(b.phase) {
         return 0;
     }
     b.idx.0
 }
 
-fn put_counters(out: &mut [u8], at: usize, b: Buffer) -> usize
-    requires { at + longest ≤ length out.old }
-    ensures wrote { Wrote (end_line_of b) out.old at result out.new }
-    ensures upper_bound { result ≤ at + longest }
-{
-    let k = words::put_three(out, at, b'e', b'n', b'd');
-    let k = words::put_count(out, k, b.len.0);
-    let k = words::put_count(out, k, shown_idx(b));
-    let k = words::put_count(out, k, b.out_len.0);
-    let k = words::put_signed_word(out, k, b.limits.max_ops);
-    let k = words::put_truth(out, k, b.limits.successful);
-    digits::put(out, k, b'\n')
+// The line `end`.
+impl Line for Buffer {
+    ghost use Rattle.commands.specs.inner.Writes.{end_line_of};
+
+    ghost bytes = { end_line_of };
+
+    fn write(&self, w: &mut Writer) {
+        w.put_all(b"end");
+        w.put_count(self.len.0);
+        w.put_count(shown_idx(self));
+        w.put_count(self.out_len.0);
+        w.put_signed_word(self.limits.max_ops);
+        w.put_truth(self.limits.successful);
+        w.put(b'\n');
+    }
 }
 
-fn put_totals(out: &mut [u8], at: usize, t: Totals) -> usize
-    requires { at + longest ≤ length out.old }
-    ensures wrote { Wrote (sum_line t) out.old at result out.new }
-    ensures upper_bound { result ≤ at + longest }
-{
-    let k = words::put_three(out, at, b's', b'u', b'm');
-    let k = words::put_count(out, k, t.lines);
-    let k = words::put_count(out, k, t.groups);
-    let k = words::put_count(out, k, t.marked);
-    digits::put(out, k, b'\n')
+// The line `sum`.
+impl Line for Totals {
+    ghost use Rattle.commands.specs.Lines.{sum_line};
+
+    ghost bytes = { sum_line };
+
+    fn write(&self, w: &mut Writer) {
+        w.put_all(b"sum");
+        w.put_count(self.lines);
+        w.put_count(self.groups);
+        w.put_count(self.marked);
+        w.put(b'\n');
+    }
 }
 
 // Whether the longest line, of 81 bytes, has room from a place on.
 pub(crate) fn has_room(len: usize, at: usize) -> bool
     ensures { result ≡ leb (at + longest) len }
 {
-    if len < at {
-        return false;
+    at <= len && 81 <= len - at
+}
+
+// The place after a line, or the same where it has no room.
+pub(crate) fn print<L: Line>(out: &mut [u8], at: usize, line: &L) -> usize
+    ensures { Prints (L.bytes line.now) out.old at result out.new }
+{
+    if !has_room(out.len(), at) {
+        return at;
     }
-    81 <= len - at
+    let mut w = Writer::new(out, at);
+    line.write(&mut w);
+    w.at
 }
 
 // The line of a command and what it answered.
 pub fn answer_line(out: &mut [u8], at: usize, byte: u8, answer: Answer) -> usize
     ensures { Prints (answer_line byte (said answer)) out.old at result out.new }
 {
-    if has_room(out.len(), at) {
-        return put_answer(out, at, byte, answer);
-    }
-    at
-}
-
-// The line `end`.
-pub(crate) fn end_line(out: &mut [u8], at: usize, b: Buffer) -> usize
-    ensures { Prints (end_line_of b) out.old at result out.new }
-{
-    if has_room(out.len(), at) {
-        return put_counters(out, at, b);
-    }
-    at
-}
-
-// A line `o`, `p` or `i`, as its kind says.
-pub(crate) fn glyph_line(out: &mut [u8], at: usize, kind: u8, g: GlyphInfo) -> usize
-    ensures { Prints (glyph_line kind (seen g)) out.old at result out.new }
-{
-    if has_room(out.len(), at) {
-        return put_glyph(out, at, kind, g);
-    }
-    at
-}
-
-// A line `x`.
-pub(crate) fn position_line(out: &mut [u8], at: usize, p: Position) -> usize
-    ensures { Prints (position_line p) out.old at result out.new }
-{
-    if has_room(out.len(), at) {
-        return put_position(out, at, p);
-    }
-    at
-}
-
-// The line `sum`.
-pub(crate) fn sum_line(out: &mut [u8], at: usize, t: Totals) -> usize
-    ensures { Prints (sum_line t) out.old at result out.new }
-{
-    if has_room(out.len(), at) {
-        return put_totals(out, at, t);
-    }
-    at
+    print(out, at, &Answered { byte, answer })
 }

@@ -8,13 +8,11 @@ use lists::Buffer;
 fn has_next(next: usize, len: usize, written: usize, room: usize) -> bool
     ensures { Follows next len written room result }
 {
-    if next < len {
-        return lines::has_room(room, written);
-    }
-    false
+    next < len && lines::has_room(room, written)
 }
 
 // A string's commands from a place on, up to its end or the first refusal 6, or until a longest line has no room.
+#[tactic(auto, using(crate::proofs::PartLaws::playing))]
 pub fn play(
     b: Buffer,
     first: &mut [u32],
@@ -29,7 +27,7 @@ pub fn play(
     let mut last = Step { reply, next: at };
     let mut written = 0;
     let mut commands = 0;
-    while has_next(last.next, script.len(), written, out.len()) {
+    'steps: while has_next(last.next, script.len(), written, out.len()) {
         let here = last.next;
         let byte = script[here];
         last = steps::step(last.reply.buffer, first, second, script, here);

@@ -1,61 +1,63 @@
 // The reader: one command from a byte string at a place, as an order.
-ghost use Rattle.std.specs.Prelude.{◌≡◌, ◌+◌, ◌*◌, ◌<◌, ◌≤◌, length};
-ghost use Rattle.commands.specs.{Calls.form_of, Reading.operands_of, Reading.count, inner.Orders.operand_at, inner.Orders.order_at, inner.Orders.ReadsForm, Reading.Reads};
+ghost use Rattle.std.specs.Prelude.{◌≡◌, ◌+◌, ◌*◌, ◌≤◌, length};
 ghost use Rattle.commands.specs.declared.Operands.TheVariants.{Words, Listed};
+ghost use Rattle.commands.specs.{Calls.form_of, Reading.operands_of, inner.Orders.operand_at, inner.Orders.order_at, inner.Orders.ReadsForm, Reading.Reads};
 
-use super::{Operands, Order, Reading};
+use super::Operands::{self, Listed, Words};
+use super::Order;
 use records::bytes;
 
-// What follows a command byte.
-fn operands_of(byte: u8) -> Operands
-    ensures value { result ≡ operands_of (form_of byte) }
-    ensures result_bound { count result ≤ 5 }
+// What follows a command byte, if it is one.
+#[tactic(auto, unfolding(crate::specs::Calls::forms, crate::specs::Reading::operands_of))]
+fn operands_of(byte: u8) -> Option<Operands>
+    ensures { result ≡ operands_of (form_of byte) }
 {
     match byte {
-        0x00 => Operands::Words(2),
-        0x01 => Operands::Words(2),
-        0x02 => Operands::Words(1),
-        0x03 => Operands::Words(0),
-        0x04 => Operands::Words(0),
-        0x05 => Operands::Words(0),
-        0x06 => Operands::Words(5),
-        0x07 => Operands::Words(0),
-        0x08 => Operands::Words(1),
-        0x09 => Operands::Words(0),
-        0x0A => Operands::Words(0),
-        0x0B => Operands::Words(1),
-        0x0C => Operands::Words(5),
-        0x0D => Operands::Words(1),
-        0x0E => Operands::Listed,
-        0x0F => Operands::Words(0),
-        0x10 => Operands::Words(1),
-        0x11 => Operands::Words(2),
-        0x12 => Operands::Words(2),
-        0x13 => Operands::Words(2),
-        0x14 => Operands::Words(2),
-        0x15 => Operands::Words(2),
-        0x16 => Operands::Words(2),
-        0x17 => Operands::Words(2),
-        0x18 => Operands::Words(2),
-        0x19 => Operands::Words(2),
-        0x1A => Operands::Words(4),
-        0x1B => Operands::Words(0),
-        0x1C => Operands::Words(2),
-        0x1D => Operands::Words(0),
-        0x1E => Operands::Words(2),
-        0x1F => Operands::Words(0),
-        0x20 => Operands::Words(4),
-        0x21 => Operands::Words(3),
-        0x22 => Operands::Words(2),
-        0x23 => Operands::Words(0),
-        0x24 => Operands::Words(0),
-        0x25 => Operands::Words(0),
-        0x26 => Operands::Words(0),
-        _ => Operands::Unknown,
+        0x00 => Some(Words(2)),
+        0x01 => Some(Words(2)),
+        0x02 => Some(Words(1)),
+        0x03 => Some(Words(0)),
+        0x04 => Some(Words(0)),
+        0x05 => Some(Words(0)),
+        0x06 => Some(Words(5)),
+        0x07 => Some(Words(0)),
+        0x08 => Some(Words(1)),
+        0x09 => Some(Words(0)),
+        0x0A => Some(Words(0)),
+        0x0B => Some(Words(1)),
+        0x0C => Some(Words(5)),
+        0x0D => Some(Words(1)),
+        0x0E => Some(Listed),
+        0x0F => Some(Words(0)),
+        0x10 => Some(Words(1)),
+        0x11 => Some(Words(2)),
+        0x12 => Some(Words(2)),
+        0x13 => Some(Words(2)),
+        0x14 => Some(Words(2)),
+        0x15 => Some(Words(2)),
+        0x16 => Some(Words(2)),
+        0x17 => Some(Words(2)),
+        0x18 => Some(Words(2)),
+        0x19 => Some(Words(2)),
+        0x1A => Some(Words(4)),
+        0x1B => Some(Words(0)),
+        0x1C => Some(Words(2)),
+        0x1D => Some(Words(0)),
+        0x1E => Some(Words(2)),
+        0x1F => Some(Words(0)),
+        0x20 => Some(Words(4)),
+        0x21 => Some(Words(3)),
+        0x22 => Some(Words(2)),
+        0x23 => Some(Words(0)),
+        0x24 => Some(Words(0)),
+        0x25 => Some(Words(0)),
+        0x26 => Some(Words(0)),
+        _ => None,
     }
 }
 
 // Operand i of n.
+#[tactic(auto, using(crate::proofs::Readings::operand_laws))]
 fn operand(script: &[u8], from: usize, n: usize, i: usize) -> u32
     requires { from + 4 * n ≤ length script.now }
     ensures { result ≡ operand_at script.now from n i }
@@ -67,6 +69,7 @@ fn operand(script: &[u8], from: usize, n: usize, i: usize) -> u32
 }
 
 // The order of n operands, and m glyph numbers after them.
+#[tactic(auto, using(crate::proofs::Readings::order_made))]
 fn order(script: &[u8], byte: u8, from: usize, n: usize, m: usize) -> Order
     requires { from + 4 * n + 4 * m ≤ length script.now }
     ensures { result ≡ order_at script.now byte from n m }
@@ -91,46 +94,45 @@ fn order(script: &[u8], byte: u8, from: usize, n: usize, m: usize) -> Order
 }
 
 // So many operands, and nothing after them.
-fn read_words(script: &[u8], byte: u8, from: usize, n: usize) -> Reading
-    requires { (from ≤ length script.now) × (n ≤ 5) × (operands_of (form_of byte) ≡ Words n) }
+#[tactic(auto, using(crate::proofs::Readings::word_forms))]
+fn read_words(script: &[u8], byte: u8, from: usize, n: usize) -> Option<Order>
+    requires { (from ≤ length script.now) × (operands_of (form_of byte) ≡ Some (Words n)) }
     ensures { ReadsForm script.now byte from result }
 {
     if script.len() - from < 4 * n {
-        return Reading::Unreadable;
+        return None;
     }
-    let o = order(script, byte, from, n, 0);
-    Reading::Command(o)
+    Some(order(script, byte, from, n, 0))
 }
 
 // Two operands, and as many glyph numbers as the second says.
-fn read_listed(script: &[u8], byte: u8, from: usize) -> Reading
-    requires { (from ≤ length script.now) × (operands_of (form_of byte) ≡ Listed) }
+#[tactic(auto, using(crate::proofs::Readings::listed_forms))]
+fn read_listed(script: &[u8], byte: u8, from: usize) -> Option<Order>
+    requires { (from ≤ length script.now) × (operands_of (form_of byte) ≡ Some Listed) }
     ensures { ReadsForm script.now byte from result }
 {
     let left = script.len() - from;
     if left < 8 {
-        return Reading::Unreadable;
+        return None;
     }
     let m = bytes::word(script, from + 4) as usize;
     if left - 8 < 4 * m {
-        return Reading::Unreadable;
+        return None;
     }
-    let o = order(script, byte, from, 2, m);
-    Reading::Command(o)
+    Some(order(script, byte, from, 2, m))
 }
 
 // The command at a place; past the end there is none.
-pub fn read_command(script: &[u8], at: usize) -> Reading
+#[tactic(auto, using(crate::proofs::Readings::commands))]
+pub fn read_command(script: &[u8], at: usize) -> Option<Order>
     ensures { Reads script.now at result }
 {
     if script.len() <= at {
-        return Reading::Unreadable;
+        return None;
     }
     let byte = script[at];
-    let operands = operands_of(byte);
-    match operands {
-        Operands::Words(n) => read_words(script, byte, at + 1, n),
-        Operands::Listed => read_listed(script, byte, at + 1),
-        Operands::Unknown => Reading::Unreadable,
+    match operands_of(byte)? {
+        Words(n) => read_words(script, byte, at + 1, n),
+        Listed => read_listed(script, byte, at + 1),
     }
 }

@@ -1,29 +1,17 @@
 // What is printed at the end of a run, line by line.
 ghost use Rattle.std.specs.Prelude.{◌≡◌, length};
-ghost use Rattle.commands.specs.{Texts.Prints, Lines.item_line, Lines.reported, Lines.line_of};
+ghost use Rattle.commands.specs.{Texts.Prints, Lines.reported, Lines.line_of};
 
 use super::{counting, lines};
-use lists::{Buffer, Item};
-
-// The line of one thing that a buffer shows.
-fn item_line(out: &mut [u8], at: usize, item: Item) -> usize
-    ensures { Prints (item_line item) out.old at result out.new }
-{
-    match item {
-        Item::OfDone(g) => lines::glyph_line(out, at, b'o', g),
-        Item::OfPassed(g) => lines::glyph_line(out, at, b'p', g),
-        Item::OfRest(g) => lines::glyph_line(out, at, b'i', g),
-        Item::OfPosition(p) => lines::position_line(out, at, p),
-        Item::Nothing => at,
-    }
-}
+use lists::{Buffer, items, state};
 
 // How many lines there are.
+#[tactic(auto, using(crate::proofs::ReportLaws::reporting))]
 pub fn report_count(b: Buffer, first: &[u32], second: &[u32]) -> usize
     ensures { result ≡ length (reported b first.now second.now) }
 {
-    if lists::state::is_sound(b, first, second) {
-        return 2 + lists::items::item_count(b, first, second);
+    if state::is_sound(b, first, second) {
+        return 2 + items::item_count(b, first, second);
     }
     0
 }
@@ -39,16 +27,15 @@ pub fn report_line(
 ) -> usize
     ensures { Prints (line_of k (reported b first.now second.now)) out.old at result out.new }
 {
-    if lists::state::is_sound(b, first, second) {
-        if k == 0 {
-            return lines::end_line(out, at, b);
-        }
-        let i = k - 1;
-        if i == lists::items::item_count(b, first, second) {
-            return lines::sum_line(out, at, counting::totals(b, first, second));
-        }
-        let item = lists::items::item(b, first, second, i);
-        return item_line(out, at, item);
+    if !state::is_sound(b, first, second) {
+        return at;
     }
-    at
+    if k == 0 {
+        return lines::print(out, at, &b);
+    }
+    let i = k - 1;
+    if i == items::item_count(b, first, second) {
+        return lines::print(out, at, &counting::totals(b, first, second));
+    }
+    lines::print(out, at, &items::item(b, first, second, i))
 }

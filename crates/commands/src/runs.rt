@@ -15,13 +15,15 @@ pub fn begin(level: u32, wants: u32) -> Reply
 }
 
 // A string's commands, one after the other, up to its end or the first refusal 6.
+#[tactic(auto, using(crate::proofs::MadeLaws::running))]
 pub fn run(b: Buffer, first: &mut [u32], second: &mut [u32], script: &[u8]) -> Ran
     ensures { Runs script.now b first.old second.old result first.new second.new }
 {
     let reply = lists::state::accepted(b);
     let mut last = Step { reply, next: 0 };
     let mut commands = 0;
-    while last.next < script.len() {
+    // Each step says where the next one starts.
+    'steps: while last.next < script.len() {
         last = steps::step(last.reply.buffer, first, second, script, last.next);
         commands += 1;
     }

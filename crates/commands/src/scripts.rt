@@ -3,30 +3,16 @@ ghost use Rattle.std.specs.Prelude.{◌≡◌, leb, length};
 ghost use Rattle.commands.specs.Reading.{Reads};
 ghost use Rattle.commands.specs.Reading.{Takes};
 
-use super::{Reading, Script, Taken, reader};
-
-// Whether a byte string ends at a place.
-fn ends_at(script: &[u8], at: usize) -> bool
-    ensures { result ≡ leb (length script.now) at }
-{
-    script.len() <= at
-}
+use super::{Order, Script, Taken, reader};
 
 // The command at a place, and the place after it; after one that cannot be read, the end.
+#[tactic(auto, unfolding(crate::specs::Reading::place_after))]
 fn take_at(script: &[u8], at: usize) -> Taken
     ensures { Takes script.now at result }
 {
     let reading = reader::read_command(script, at);
-    match reading {
-        Reading::Command(o) => Taken {
-            reading,
-            next: o.next,
-        },
-        Reading::Unreadable => Taken {
-            reading,
-            next: script.len(),
-        },
-    }
+    let next = reading.map_or(script.len(), |o| o.next);
+    Taken { reading, next }
 }
 
 // A reader at the start of its bytes.
@@ -37,7 +23,7 @@ pub fn begin<'a>(bytes: &'a [u8]) -> Script<'a>
 }
 
 // The command at its place.
-pub fn next<'a>(s: Script<'a>) -> Reading
+pub fn next<'a>(s: Script<'a>) -> Option<Order>
     ensures { Reads s.entry.bytes.now s.entry.place result }
 {
     reader::read_command(s.bytes, s.place)
@@ -47,11 +33,11 @@ pub fn next<'a>(s: Script<'a>) -> Reading
 pub fn ended<'a>(s: Script<'a>) -> bool
     ensures { result ≡ leb (length s.entry.bytes.now) s.entry.place }
 {
-    ends_at(s.bytes, s.place)
+    s.bytes.len() <= s.place
 }
 
 // Reads the command at its place and goes past it.
-pub fn take_next<'s, 'a>(s: &'s mut Script<'a>) -> Reading
+pub fn take_next<'s, 'a>(s: &'s mut Script<'a>) -> Option<Order>
     ensures { (s.new.bytes ≡ s.old.bytes) × (Takes s.old.bytes.now s.old.place (record { reading = result; next = s.new.place })) }
 {
     let t = take_at(s.bytes, s.place);

@@ -1,115 +1,97 @@
 // Whole texts in a lent slice: the report of a buffer, and its layout record.
 ghost use Rattle.std.specs.Prelude.{◌≡◌, ◌*◌, ◌≤◌, length};
 ghost use mathlib.Core.List.{flat_map};
-ghost use Rattle.commands.specs.{Texts.Wrote, Lines.reported, Lines.line_of, Texts.longest};
-ghost use Rattle.commands.specs.{Texts.without_glyph, inner.TextParts.shown, inner.TextParts.joined, inner.TextParts.Stands, inner.TextParts.Long, inner.TextParts.Room, inner.TextParts.Together, Texts.Fills};
+ghost use Rattle.commands.specs.{Lines.reported, Lines.line_of, Texts.longest, Texts.without_glyph, Texts.Fills, Texts.Wrote};
+ghost use Rattle.commands.specs.{inner.Writes.Puts, inner.TextParts.report_of, inner.TextParts.Stands, inner.TextParts.Long, inner.TextParts.Room, inner.TextParts.Together};
 
-use super::{columns, digits, reports};
+use super::columns::{Column, Kept, Removed};
+use super::reports;
+use super::writer::Writer;
 use lists::Buffer;
+use std::ops::Range;
 
-// A part of a line that stands in a room.
+// What a report is of.
 #[derive(Clone, Copy)]
-struct Part {
-    from: usize,
-    to: usize,
-}
-
-// Line k of a report, with the glyph column or without, somewhere in a room.
-fn show_line(
-    room: &mut [u8],
+struct Source<'a> {
     b: Buffer,
-    first: &[u32],
-    second: &[u32],
-    k: usize,
-    bare: bool,
-) -> Part
-    requires { longest ≤ length room.old }
-    ensures { Stands (shown bare (line_of k (reported b first.now second.now))) result.from result.to room.new }
-{
-    let to = reports::report_line(room, 0, b, first, second, k);
-    if bare {
-        let from = columns::cut(&mut room[..to]);
-        return Part { from, to };
+    first: &'a [u32],
+    second: &'a [u32],
+}
+
+impl<'a> Source<'a> {
+    // How many lines there are.
+    fn count(&self) -> usize
+        ensures { result ≡ length (report_of self.now) }
+    {
+        reports::report_count(self.b, self.first, self.second)
     }
-    Part { from: 0, to }
-}
 
-// The length of line k.
-fn line_length(b: Buffer, first: &[u32], second: &[u32], k: usize, bare: bool) -> usize
-    ensures { Long (shown bare (line_of k (reported b first.now second.now))) result }
-{
-    let mut room = [0u8; 128];
-    let part = show_line(&mut room, b, first, second, k, bare);
-    part.to - part.from
-}
-
-// Some bytes, one after the other.
-fn copy(out: &mut [u8], at: usize, bytes: &[u8]) -> usize
-    requires { Room bytes.now at out.old }
-    ensures { Wrote bytes.now out.old at result out.new }
-{
-    let mut k = at;
-    for i in 0..bytes.len() {
-        k = digits::put(out, k, bytes[i]);
+    // What is shown of line k, somewhere in a room.
+    fn show_line<C: Column>(&self, room: &mut [u8], k: usize) -> Range<usize>
+        requires { longest ≤ length room.old }
+        ensures { Stands (C.shown (line_of k (report_of self.now))) result.start result.end room.new }
+    {
+        let end = reports::report_line(room, 0, self.b, self.first, self.second, k);
+        let start = C::start(&mut room[..end]);
+        start..end
     }
-    k
-}
 
-// Line k at a place.
-fn put_line(
-    out: &mut [u8],
-    at: usize,
-    b: Buffer,
-    first: &[u32],
-    second: &[u32],
-    k: usize,
-    bare: bool,
-) -> usize
-    requires { Room (shown bare (line_of k (reported b first.now second.now))) at out.old }
-    ensures { Wrote (shown bare (line_of k (reported b first.now second.now))) out.old at result out.new }
-{
-    let mut room = [0u8; 128];
-    let part = show_line(&mut room, b, first, second, k, bare);
-    let from = part.from;
-    let to = part.to;
-    copy(out, at, &room[from..to])
-}
-
-// The length of all lines.
-fn text_length(b: Buffer, first: &[u32], second: &[u32], bare: bool) -> usize
-    ensures { Together (joined bare (reported b first.now second.now)) (length (reported b first.now second.now)) result }
-{
-    let n = reports::report_count(b, first, second);
-    let mut total = 0;
-    for k in 0..n {
-        total += line_length(b, first, second, k, bare);
+    // The length of what is shown of line k.
+    fn line_length<C: Column>(&self, k: usize) -> usize
+        ensures { Long (C.shown (line_of k (report_of self.now))) result }
+    {
+        let mut room = [0u8; 128];
+        let part = self.show_line::<C>(&mut room, k);
+        part.end - part.start
     }
-    total
-}
 
-// All lines, from the start on.
-fn put_text(out: &mut [u8], b: Buffer, first: &[u32], second: &[u32], bare: bool) -> usize
-    requires { Room (joined bare (reported b first.now second.now)) 0 out.old }
-    ensures { Wrote (joined bare (reported b first.now second.now)) out.old 0 result out.new }
-{
-    let n = reports::report_count(b, first, second);
-    let mut at = 0;
-    for k in 0..n {
-        at = put_line(out, at, b, first, second, k, bare);
+    // What is shown of line k, written.
+    fn put_line<C: Column>(&self, w: &mut Writer, k: usize)
+        requires { Room (C.shown (line_of k (report_of self.now))) w.old.at w.old.out.now }
+        ensures { Puts (C.shown (line_of k (report_of self.now))) w.old w.new }
+    {
+        let mut room = [0u8; 128];
+        let part = self.show_line::<C>(&mut room, k);
+        w.put_all(&room[part]);
     }
-    at
-}
 
-// All lines where they have room.
-fn text(out: &mut [u8], b: Buffer, first: &[u32], second: &[u32], bare: bool) -> usize
-    ensures fills { Fills (joined bare (reported b first.now second.now)) out.old result out.new }
-    ensures upper_bound { result ≤ longest * length (reported b first.now second.now) }
-{
-    let n = text_length(b, first, second, bare);
-    if n <= out.len() {
-        return put_text(out, b, first, second, bare);
+    // The length of all lines.
+    fn text_length<C: Column>(&self) -> usize
+        ensures { Together (flat_map C.shown (report_of self.now)) (length (report_of self.now)) result }
+    {
+        let n = self.count();
+        let mut total = 0;
+        for k in 0..n {
+            total += self.line_length::<C>(k);
+        }
+        total
     }
-    n
+
+    // All lines, from the start on.
+    #[tactic(auto, using(crate::proofs::TextLaws::filling))]
+    fn put_text<C: Column>(&self, out: &mut [u8]) -> usize
+        requires { Room (flat_map C.shown (report_of self.now)) 0 out.old }
+        ensures { Wrote (flat_map C.shown (report_of self.now)) out.old 0 result out.new }
+    {
+        let n = self.count();
+        let mut w = Writer::new(out, 0);
+        for k in 0..n {
+            self.put_line::<C>(&mut w, k);
+        }
+        w.at
+    }
+
+    // All lines where they have room.
+    fn text<C: Column>(&self, out: &mut [u8]) -> usize
+        ensures fills { Fills (flat_map C.shown (report_of self.now)) out.old result out.new }
+        ensures upper_bound { result ≤ longest * length (report_of self.now) }
+    {
+        let n = self.text_length::<C>();
+        if n <= out.len() {
+            return self.put_text::<C>(out);
+        }
+        n
+    }
 }
 
 // The line `end`, the lists, and the line `sum`. Gives the number of bytes that they need.
@@ -117,7 +99,7 @@ pub fn report(out: &mut [u8], b: Buffer, first: &[u32], second: &[u32]) -> usize
     ensures fills { Fills (flat_map (λ l. l) (reported b first.now second.now)) out.old result out.new }
     ensures upper_bound { result ≤ longest * length (reported b first.now second.now) }
 {
-    text(out, b, first, second, false)
+    Source { b, first, second }.text::<Kept>(out)
 }
 
 // The same with the glyph column removed.
@@ -125,5 +107,5 @@ pub fn layout_record(out: &mut [u8], b: Buffer, first: &[u32], second: &[u32]) -
     ensures fills { Fills (flat_map without_glyph (reported b first.now second.now)) out.old result out.new }
     ensures upper_bound { result ≤ longest * length (reported b first.now second.now) }
 {
-    text(out, b, first, second, true)
+    Source { b, first, second }.text::<Removed>(out)
 }

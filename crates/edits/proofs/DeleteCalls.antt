@@ -1,22 +1,28 @@
 -- Deletion by places, and what 0F comes to, outcome by outcome.
+use Rattle.lists.specs.inner.Verdicts.{amended}
+use Rattle.std.specs.Prelude.{Ok}
+use Rattle.lists.proofs.Decisions.{turned}
+use Rattle.lists.specs.inner.States.{Decision}
+use Rattle.lists.specs.inner.Verdicts.{Turned}
+use Rattle.std.specs.Prelude.{None}
 use mathlib.Core.{Path.◌≡◌, Path.refl, Path.sym, Path.ap, Path.◌∙◌, Bool.Bool, Bool.true, Bool.false, Bool.cond, Bool.false≢true, List.List}
 use Rattle.std.proofs.Common.{ℕ, ◌+◌, ◌-◌, ◌<◌, ◌≤◌, arith}
 use lib.{Dec.eqb, Dec.ltb, ListN.length, ListN.take, ListN.get_or}
-use Rattle.records.specs.{Contradiction, WrongPhase, OutOfRange, Done, No, Limits, Glyphs.set_cluster, Ranges.clusters, Ranges.edit, Ranges.tails, Ranges.is, View.glyphs, View.seen, inner.Stores.zero_glyph}
+use Rattle.records.specs.{Contradiction, WrongPhase, OutOfRange, Glyphs.set_cluster, Ranges.clusters, Ranges.edit, Ranges.tails, Ranges.is, View.glyphs, View.seen, inner.Stores.zero_glyph}
 use Rattle.records.specs.declared.GlyphInfo.{GlyphInfo}
 use Rattle.records.proofs.View.{glyphs-same}
-use Rattle.lists.specs.{declared.Buffer.Buffer, declared.Verdict.Verdict}
-use Rattle.lists.specs.{Account.Account, Account.read_level, Account.output_phase, Account.has_output, Cursor.dropping, Account.refused, Account.accepted, Contract.account_of, Contract.gone_of, Contract.sound, inner.States.reply, inner.States.at_places, inner.States.with_limits_of, inner.Verdicts.Leaves, inner.Verdicts.settled, inner.Verdicts.Sided}
+use Rattle.lists.specs.{declared.Buffer.Buffer}
+use Rattle.lists.specs.{Account.Account, Account.read_level, Account.output_phase, Account.has_output, Cursor.dropping, Account.refused, Account.accepted, Contract.account_of, Contract.gone_of, Contract.sound, inner.States.reply, inner.States.at_places, inner.States.with_limits_of, inner.Verdicts.Leaves, inner.Verdicts.settled}
 use Rattle.lists.proofs.{Accounts.output-of, SoundLaws.sound-held}
 use Rattle.lists.proofs.Decisions.{near-placed, settled_is, acts-is, settles-refused, meets-sided}
 use Rattle.lists.proofs.SoundLaws.{soundness}
 use Rattle.lists.proofs.Refusing.{refusing}
 use Rattle.records.proofs.Tests.{tested}
 use Rattle.lists.proofs.Changed.{own-limits, other-limits, other-places}
-use Rattle.edits.specs.{inner.Acts.Acts, inner.Charges.left_with, inner.Charges.DecidedBy, Deleting.deleted, Deleting.delete_glyph, Merging.merge, Merging.clusters_merge, inner.MergeActs.merge_limits, inner.MergeActs.Merges}
-use Rattle.edits.specs.inner.Deletes.{Deletable, laid, DeleteRoom, NextFound, LastFound, Surviving, SurvivingBy, Inherits, Deletes, merged_with}
+use Rattle.edits.specs.{inner.Acts.Acts, inner.Charges.DecidedBy, Deleting.deleted, Deleting.delete_glyph, Merging.merge, Merging.clusters_merge, inner.MergeActs.merge_limits, inner.MergeActs.Merges}
+use Rattle.edits.specs.inner.Deletes.{Deletable, laid, DeleteRoom, NextFound, LastFound, Surviving, Inherits, Deletes, merged_with}
 use Rattle.edits.proofs.Writings.{rest-short, rest-long}
-use Rattle.edits.proofs.{Charging.by-none, Charging.by-unsound, MergeCalls.in-acts}
+use Rattle.edits.proofs.{Charging.by-turned, Charging.by-unsound, MergeCalls.in-acts}
 use Rattle.edits.proofs.Deletions.{next-is, next-none, last-is, last_none, survives-next, survives-last, deletes-survived, deletes-inherited, deletes-alone, deletes, stays, next-mergeful, merge-deletes, inherit-none, inherit-apart, inherit-within}
 
 -- ---- what is found
@@ -61,17 +67,17 @@ module _ {separate t : Bool} {level wants idx len out_length : ℕ} {run other :
   unfolding merge_limits
   free {x} b v u lr lo e = deletes v {x = x} b.limits (rw (own-limits (laid separate level wants idx len out_length b)) u) lr lo e
 
-  deletes-kept : t ≡ true → Deletes separate level wants idx len out_length false run other run other
+  pub deletes-kept : t ≡ true → Deletes separate level wants idx len out_length false run other run other
   deletes-kept h = record { acts = λ b v. free b v (stays v) refl refl (deletes-survived v (sym (w.is (laid separate level wants idx len out_length b) v) ∙ h)); own = λ z. refl }
 
   module _ (h : t ≡ false) where
-    deletes-inherits : {run' other' : List ℕ} → 0 < out_length → Inherits separate idx out_length run other run' other' → length run' ≡ length run → length other' ≡ length other → Deletes separate level wants idx len out_length false run other run' other'
+    pub deletes-inherits : {run' other' : List ℕ} → 0 < out_length → Inherits separate idx out_length run other run' other' → length run' ≡ length run → length other' ≡ length other → Deletes separate level wants idx len out_length false run other run' other'
     deletes-inherits k u lr lo = record { acts = λ b v. free b v (u.acts (laid separate level wants idx len out_length b) v) lr lo (deletes-inherited v (sym (w.is (laid separate level wants idx len out_length b) v) ∙ h) k); own = u.own }
 
-    deletes-single : out_length ≤ 0 → len - idx < 2 → Deletes separate level wants idx len out_length false run other run other
+    pub deletes-single : out_length ≤ 0 → len - idx < 2 → Deletes separate level wants idx len out_length false run other run other
     deletes-single k l = record { acts = λ b v. free b v (stays v) refl refl (deletes-alone v (sym (w.is (laid separate level wants idx len out_length b) v) ∙ h) k (omega arith)); own = λ z. refl }
 
-    deletes-merges : {merges : Bool} {run' other' : List ℕ} → out_length ≤ 0 → 2 ≤ len - idx → merges ≡ clusters_merge (read_level level) → Merges separate merges level wants idx len out_length idx (idx + 2) run other run' other' → length run' ≡ length run → length other' ≡ length other
+    pub deletes-merges : {merges : Bool} {run' other' : List ℕ} → out_length ≤ 0 → 2 ≤ len - idx → merges ≡ clusters_merge (read_level level) → Merges separate merges level wants idx len out_length idx (idx + 2) run other run' other' → length run' ≡ length run → length other' ≡ length other
         → Deletes separate level wants idx len out_length merges run other run' other'
     deletes-merges {merges} {run'} {other'} k l em m lr lo = record {
       acts = λ b v.
@@ -82,31 +88,12 @@ module _ {separate t : Bool} {level wants idx len out_length : ℕ} {run other :
       own = m.apart-only;
     }
 
--- wherever the run lies
-module _ {swapped separate t : Bool} {level wants idx len out_length : ℕ} {f s : List ℕ} (w : SurvivingBy swapped separate idx len out_length f s t) where
-  pub keeps-survived : t ≡ true → Sided swapped (Deletes separate level wants idx len out_length false) f s f s
-  keeps-survived h = record { first = λ x. deletes-kept (w.first x) h; second = λ x. deletes-kept (w.second x) h }
-
-  module _ (h : t ≡ false) where
-    pub keeps-single : out_length ≤ 0 → len - idx < 2 → Sided swapped (Deletes separate level wants idx len out_length false) f s f s
-    keeps-single k l = record { first = λ x. deletes-single (w.first x) h k l; second = λ x. deletes-single (w.second x) h k l }
-
-    module _ {f' s' : List ℕ} (lf : length f' ≡ length f) (ls : length s' ≡ length s) where
-      pub keeps-inherited : 0 < out_length → Sided swapped (Inherits separate idx out_length) f s f' s' → Sided swapped (Deletes separate level wants idx len out_length false) f s f' s'
-      keeps-inherited k u = record { first = λ x. deletes-inherits (w.first x) h k (u.first x) lf ls; second = λ x. deletes-inherits (w.second x) h k (u.second x) ls lf }
-
-      pub keeps-merged : {merges : Bool} → out_length ≤ 0 → 2 ≤ len - idx → merges ≡ clusters_merge (read_level level) → Sided swapped (Merges separate merges level wants idx len out_length idx (idx + 2)) f s f' s' → Sided swapped (Deletes separate level wants idx len out_length merges) f s f' s'
-      keeps-merged k l em m = record { first = λ x. deletes-merges (w.first x) h k l em (m.first x) lf ls; second = λ x. deletes-merges (w.second x) h k l em (m.second x) ls lf }
-
-pub survives-first : {swapped separate t : Bool} {idx len out_length : ℕ} {f s : List ℕ} → swapped ≡ false → Surviving separate idx len out_length f s t → SurvivingBy swapped separate idx len out_length f s t
-survives-first h w = record { first = λ x. w; second = λ x. absurd (false≢true (sym h ∙ x)) }
-
-pub survives-second : {swapped separate t : Bool} {idx len out_length : ℕ} {f s : List ℕ} → swapped ≡ true → Surviving separate idx len out_length s f t → SurvivingBy swapped separate idx len out_length f s t
-survives-second h w = record { first = λ x. absurd (false≢true (sym x ∙ h)); second = λ x. w }
-
 -- at the places of a buffer
 pub delete-room : {b : Buffer} {run other : List ℕ} → Deletable b run other → DeleteRoom b.idx.0 b.len.0 b.out_len.0 run other
 delete-room {b} {run} {other} v = record { some = v.some; fits = omega (arith, v.held.len-in, v.held.all_in); out-fits = omega (arith, v.held.out-in, v.held.all_in); same = glyphs-same run other v.held.same }
+
+pub delete-turned : {idx len out_length : ℕ} {run other : List ℕ} → DeleteRoom idx len out_length run other → DeleteRoom idx len out_length other run
+delete-turned w = record { some = w.some; fits = omega (arith, w.fits, w.same); out-fits = omega (arith, w.out-fits, w.same); same = sym w.same }
 
 -- ---- 0F
 module _ (a : Account ℕ) where
@@ -122,25 +109,25 @@ module _ (a : Account ℕ) where
   unfolding delete_glyph
   delete-accepts h k = simp (h, k, refusing)
 
-due-is : (b : Buffer) {b' : Buffer} {v : Verdict} (merged : Bool) → b' ≡ at_places (b.idx.0 + 1) b.len.0 b.out_len.0 b → Leaves b' true Done v → settled b (merged_with merged v) ≡ reply (at_places (b.idx.0 + 1) b.len.0 b.out_len.0 (with_limits_of (merge_limits merged 2 b.limits) b)) Done
+due-is : (b : Buffer) {b' : Buffer} {v : Decision} (merged : Bool) → b' ≡ at_places (b.idx.0 + 1) b.len.0 b.out_len.0 b → Leaves b' true None v → settled b (amended (merged_with merged) v) ≡ reply (at_places (b.idx.0 + 1) b.len.0 b.out_len.0 (with_limits_of (merge_limits merged 2 b.limits) b)) (Ok None)
 due-is b merged eb w = settled_is {acts = true} (near-placed b _ _ _ _) (record { is = rw (w.is, eb) (simp (other-limits, other-places)) })
 
-abbrev DeleteDecided : Buffer → (f s : List ℕ) → Verdict → Type 0
+abbrev DeleteDecided : Buffer → (f s : List ℕ) → Decision → Type 0
 DeleteDecided b f s v = DecidedBy Bool merged_with (λ capacity a. delete_glyph a) b f s v (DeleteRoom b.idx.0 b.len.0 b.out_len.0 f s) (Deletes b.have_separate_output b.level b.wants b.idx.0 b.len.0 b.out_len.0)
 
-module _ {b : Buffer} {f s : List ℕ} {v : Verdict} where
-  pub delete-unsound : sound b f s ≡ false → Leaves b false (No Contradiction) v → DeleteDecided b f s v
+module _ {b : Buffer} {f s : List ℕ} {v : Decision} where
+  pub delete-unsound : sound b f s ≡ false → Turned Contradiction v → DeleteDecided b f s v
   delete-unsound = by-unsound
 
   module _ (h : sound b f s ≡ true) where
-    pub delete-phase : output_phase b.phase ≡ false → Leaves b false (No WrongPhase) v → DeleteDecided b f s v
-    delete-phase o w = by-none w (settles-refused h (record { law = λ run other l. delete-none _ (output-of b run other ∙ o) }) w)
+    pub delete-phase : output_phase b.phase ≡ false → Turned WrongPhase v → DeleteDecided b f s v
+    delete-phase o w = by-turned w (settles-refused h (record { law = λ run other l. delete-none _ (output-of b run other ∙ o) }) w)
 
     module _ (o : output_phase b.phase ≡ true) where
-      pub delete-ended : b.len.0 ≤ b.idx.0 → Leaves b false (No OutOfRange) v → DeleteDecided b f s v
-      delete-ended k w = by-none w (settles-refused h (record { law = λ run other l. delete-outside _ (output-of b run other ∙ o) (rest-short l.held o k) }) w)
+      pub delete-ended : b.len.0 ≤ b.idx.0 → Turned OutOfRange v → DeleteDecided b f s v
+      delete-ended k w = by-turned w (settles-refused h (record { law = λ run other l. delete-outside _ (output-of b run other ∙ o) (rest-short l.held o k) }) w)
 
-      pub delete-goes : {b' : Buffer} → b.idx.0 < b.len.0 → b' ≡ at_places (b.idx.0 + 1) b.len.0 b.out_len.0 b → Leaves b' true Done v → DeleteDecided b f s v
+      pub delete-goes : {b' : Buffer} → b.idx.0 < b.len.0 → b' ≡ at_places (b.idx.0 + 1) b.len.0 b.out_len.0 b → Leaves b' true None v → DeleteDecided b f s v
       delete-goes k eb w = record {
         still = λ t. absurd (false≢true (sym t ∙ acts-is w));
         asked = λ t. delete-room (record { held = sound-held b f s h; output = o; some = k });
@@ -148,11 +135,7 @@ module _ {b : Buffer} {f s : List ℕ} {v : Verdict} where
             in-acts (d.acts b (record { held = l.held; output = o; some = k })) (delete-accepts _ (output-of b run other ∙ o) (rest-long l.held o k)) (due-is b merged eb w));
       }
 
--- at the end of the call
-pub due : (v : Verdict) (merged : Bool) {l : Limits} {w : Verdict} → l ≡ merge_limits merged 2 v.limits → w ≡ left_with l v → w ≡ merged_with merged v
-due v merged el ew = rw (ew, el)
-
 -- for the proofs of functions
-pub ruleset delete-calls = (soundness, tested, delete-unsound, delete-phase, delete-ended, delete-goes, due)
+pub ruleset delete_calls = (turned, soundness, tested, delete-unsound, delete-phase, delete-ended, delete-goes)
 
-pub ruleset delete-acts = (next-found, next-lacks, last_found, last-lacks, surviving-next, surviving-last, inherits-none, inherits-apart, inherits-within, keeps-survived, keeps-single, keeps-inherited, keeps-merged, survives-first, survives-second)
+pub ruleset delete_acting = (next-found, next-lacks, last_found, last-lacks, surviving-next, surviving-last, inherits-none, inherits-apart, inherits-within, deletes-kept, deletes-inherits, deletes-single, deletes-merges)

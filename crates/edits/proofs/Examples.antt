@@ -1,5 +1,6 @@
 -- Examples of the edits, on small accounts.
-use mathlib.Core.{Path.◌≡◌, Path.refl, Bool.true, Option.some, List.List, List.[], List.◌∷◌}
+use mathlib.Core.{Path.◌≡◌, Path.refl, Bool.true, List.List, List.[], List.◌∷◌}
+use Rattle.std.specs.Prelude.{Some}
 use Rattle.std.proofs.Common.{ℕ}
 use Rattle.records.specs.{Phase, Plain, Output, InputPlace, OutOfRange, BadOperand, OverCapacity, Counters.fresh_limits, Counters.costs, Counters.grown, Glyphs.Glyph, Glyphs.zero_position}
 use Rattle.lists.specs.{Account.Account, Account.limiting, Account.refused, Account.accepted}
@@ -45,7 +46,7 @@ unfolding g holding executable
 propagates = refl
 
 -- traps: the 255 test comes before the clamp; cluster 4,294,967,295 stays out of a range that starts above 0
-far : (plain_form true true 3 (some (at 0)) (some (at 300)) (run (g 1 0 0 0 ∷ g 2 1 0 0 ∷ [])) ≡ accepted (run (g 1 0 0 0 ∷ g 2 1 0 0 ∷ []))) × (plain_form true true 3 (some (at 0)) (some (at 255)) (run (g 1 0 0 0 ∷ g 2 1 0 0 ∷ [])) ≡ accepted (run (g 1 0 0 0 ∷ g 2 1 3 0 ∷ [])))
+far : (plain_form true true 3 (Some (at 0)) (Some (at 300)) (run (g 1 0 0 0 ∷ g 2 1 0 0 ∷ [])) ≡ accepted (run (g 1 0 0 0 ∷ g 2 1 0 0 ∷ []))) × (plain_form true true 3 (Some (at 0)) (Some (at 255)) (run (g 1 0 0 0 ∷ g 2 1 0 0 ∷ [])) ≡ accepted (run (g 1 0 0 0 ∷ g 2 1 3 0 ∷ [])))
 unfolding g holding run at executable
 far = (refl, refl)
 
@@ -54,7 +55,7 @@ unfolding g holding run executable
 masks = refl
 
 -- a lone glyph of *done* is marked if it is not of m
-flags-out : outbuffer_form true true 3 (some (record { 0 = 0 })) (some (at 1)) (holding Output 0 0 (g 8 5 0 0 ∷ g 9 1 0 0 ∷ []) (g 1 3 0 0 ∷ [])) ≡ accepted (holding Output 0 0 (g 8 5 3 0 ∷ g 9 1 0 0 ∷ []) (g 1 3 3 0 ∷ []))
+flags-out : outbuffer_form true true 3 (Some (record { 0 = 0 })) (Some (at 1)) (holding Output 0 0 (g 8 5 0 0 ∷ g 9 1 0 0 ∷ []) (g 1 3 0 0 ∷ [])) ≡ accepted (holding Output 0 0 (g 8 5 3 0 ∷ g 9 1 0 0 ∷ []) (g 1 3 3 0 ∷ []))
 unfolding g holding at executable
 flags-out = refl
 

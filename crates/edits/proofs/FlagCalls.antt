@@ -1,22 +1,25 @@
 -- The plain flag forms: from what the slice workers leave to the account, and the calls.
-use mathlib.Core.{Path.◌≡◌, Path.refl, Path.sym, Path.ap, Path.◌∙◌, Path.subst, Bool.Bool, Bool.true, Bool.false, Bool.cond, Bool.not, Bool.◌&&◌, Bool.◌||◌, Bool.false≢true, Option.Option, List.List}
-use Rattle.std.proofs.Common.{ℕ, ◌-◌, ◌/◌, ◌%◌, ◌<◌, ◌≤◌, arith, ltb-false, le-ltb, lt-ltb, eq-eqb, ne_eqb}
+use Rattle.lists.proofs.Decisions.{turned}
+use Rattle.lists.specs.inner.States.{Decision}
+use Rattle.lists.specs.inner.Verdicts.{Turned}
+use Rattle.std.specs.Prelude.{None}
+use mathlib.Core.{Path.◌≡◌, Path.refl, Path.sym, Path.ap, Path.◌∙◌, Path.subst, Bool.Bool, Bool.true, Bool.false, Bool.cond, Bool.not, Bool.◌&&◌, Bool.◌||◌, Bool.false≢true, List.List}
+use Rattle.std.specs.Prelude.{Option}
+use Rattle.std.proofs.Common.{ℕ, ◌-◌, ◌/◌, ◌%◌, ◌≤◌, arith, ltb-false, eq-eqb, ne_eqb}
 use lib.{Dec.ltb, ListN.length, ListN.drop, Seq.slice}
-use Rattle.records.specs.{Phase, InputPlace, Contradiction, WrongPhase, OutOfRange, Done, No, Glyphs.flagged, Ranges.clusters, Ranges.edit, View.glyphs, View.positions_in}
+use Rattle.records.specs.{Phase, InputPlace, Contradiction, WrongPhase, OutOfRange, Glyphs.flagged, Ranges.clusters, Ranges.edit, View.glyphs, View.positions_in}
 use Rattle.records.proofs.View.{glyphs-same}
-use Rattle.lists.specs.{declared.Buffer.Buffer, declared.Verdict.Verdict}
-use Rattle.lists.specs.{Account.read_level, Account.Account, Account.State, Account.output_phase, Account.spoiled_phase, Account.is_spoiled, Account.len, Account.refused, Account.accepted, Contract.shown, Contract.gone_of, Contract.state_of, Contract.account_of, Contract.sound, inner.Held.Held, inner.Verdicts.Leaves, inner.Verdicts.settled, inner.Verdicts.Sided, inner.Verdicts.Decided}
+use Rattle.lists.specs.{declared.Buffer.Buffer}
+use Rattle.lists.specs.{Account.read_level, Account.Account, Account.State, Account.output_phase, Account.spoiled_phase, Account.is_spoiled, Account.len, Account.refused, Account.accepted, Contract.shown, Contract.gone_of, Contract.state_of, Contract.account_of, Contract.sound, inner.Held.Held, inner.Verdicts.Leaves}
 use Rattle.lists.proofs.{Accounts.spoiled-of, Accounts.len_of, Accounts.gone-of, Accounts.wants-of, SoundLaws.sound-held, Decisions.near_same, Decisions.accepts, Decisions.decided-unsound, Decisions.decided-refused, Decisions.decided-accepted, Decisions.decided-does}
 use Rattle.lists.proofs.SoundLaws.{soundness}
 use Rattle.lists.proofs.Refusing.{refusing}
 use Rattle.records.proofs.Tests.{tested}
 use Rattle.lists.proofs.Showing.{on-shown, account-same}
 use Rattle.records.proofs.Edited.{edit-drop-behind}
-use Rattle.edits.specs.declared.InputBound.{InputBound}
-use Rattle.edits.specs.{inner.Acts.Acts, inner.Acts.Mergeful, Flags.input_bound, inner.BoundNumbers.input_number, Flags.interior, Flags.search_level, Flags.sought, Flags.flag_interior, Flags.flag_all, Flags.place_number, Flags.too_far, Flags.start_of, Flags.end_of, Flags.plain_form, Flags.wants_concat, Flags.wants_tatweel, inner.Holding.holds, inner.Marks.flagged_run, inner.Marks.Flaggable, inner.Marks.Flagged, inner.Marks.FlagsInput}
+use Rattle.edits.specs.{inner.Acts.Acts, inner.Acts.Mergeful, inner.BoundNumbers.input_number, Flags.interior, Flags.search_level, Flags.sought, Flags.flag_interior, Flags.flag_all, Flags.place_number, Flags.too_far, Flags.start_of, Flags.end_of, Flags.plain_form, Flags.wants_concat, Flags.wants_tatweel, inner.Holding.holds, inner.Marks.flagged_run, inner.Marks.Flaggable, inner.Marks.FlagsInput}
 use Rattle.edits.proofs.MergeForms.{InputRange, InputFrom}
 use Rattle.edits.proofs.BoundLaws.{end-most}
-use Rattle.edits.proofs.MarkLaws.{sided-as}
 use Rattle.edits.proofs.FlagLaws.{flagged-all, flagged-all-within}
 use Rattle.edits.proofs.Places.{paired-flagged-all}
 use Rattle.edits.proofs.MergeCalls.{own-apart, own-within, acts-free, from-gone, range-apart, range-within, out-low, width, flag_is, flag-behind, neither_left, neither_right, in-acts}
@@ -68,23 +71,6 @@ module _ {b : Buffer} {run other : List ℕ} {s e : ℕ} (v : Mergeful b s e run
       (acts-free v.held (flag_all bits (s - gone_of b) (e - gone_of b)) lr (rw eg (edit-drop-behind (flagged bits) s e b.len.0 (glyphs run) v.order v.end)) (all-is eg)).0
 
 -- ---- the tests of the calls
-module _ (a c : ℕ) (y : Bool) where
-  pub past : a < c → true ≡ (ltb a c || y)
-  past h = rw (lt-ltb a c h)
-
-  pub not-past : {z : Bool} → c ≤ a → z ≡ y → z ≡ (ltb a c || y)
-  not-past h e = rw (le-ltb a c h) e
-
-module _ (concat x far : Bool) {t : Bool} (h : concat ≡ true) (e : t ≡ x) where
-  pub idle-wanted : t ≡ true → far ≡ (not (not concat || x) || far)
-  idle-wanted k = rw (h, sym e ∙ k)
-
-  pub idle-unwanted : t ≡ false → true ≡ (not (not concat || x) || far)
-  idle-unwanted k = rw (h, sym e ∙ k)
-
-pub start-past : (s : ℕ) (b : Buffer) {g : ℕ} → g ≡ gone_of b → ltb s g ≡ ltb s (gone_of b)
-start-past s b e = ap (ltb s) e
-
 module _ (interiorly wanted : Bool) (bits : ℕ) (s e : Option InputPlace) (a : Account ℕ) where
   abbrev s' : Option ℕ
   s' = place_number (λ p. p.0) s
@@ -114,11 +100,11 @@ module _ (interiorly wanted : Bool) (bits : ℕ) (s e : Option InputPlace) (a : 
 pub idle-of : (b : Buffer) (run other : List ℕ) (concat x : Bool) {far idle : Bool} → far ≡ x → idle ≡ (not (not concat || wants_concat b.wants) || far) → (not (not concat || wants_concat (account_of b run other).state.wants) || x) ≡ idle
 idle-of b run other concat x ef ei = rw (wants-of b run other, ← ef) (sym ei)
 
-pub end-of : {b : Buffer} {run other : List ℕ} {j : ℕ} (end : InputBound) → Held b run other → spoiled_phase b.phase ≡ false → j ≡ end_of (input_number end) b.len.0 → j ≡ end_of (input_number end) (len (account_of b run other))
+pub end-of : {b : Buffer} {run other : List ℕ} {j : ℕ} (end : Option InputPlace) → Held b run other → spoiled_phase b.phase ≡ false → j ≡ end_of (input_number end) b.len.0 → j ≡ end_of (input_number end) (len (account_of b run other))
 end-of {b} {run} {other} end v p ee = ee ∙ ap (end_of (input_number end)) (sym (len_of b run other v p))
 
 -- the places of a plain form, and what the worker asks for
-mergeful : {b : Buffer} {run other : List ℕ} {i j : ℕ} (end : InputBound) → Held b run other → spoiled_phase b.phase ≡ false → j ≡ end_of (input_number end) b.len.0 → (ltb j i || ltb i (gone_of b)) ≡ false → Mergeful b i j run other
+mergeful : {b : Buffer} {run other : List ℕ} {i j : ℕ} (end : Option InputPlace) → Held b run other → spoiled_phase b.phase ≡ false → j ≡ end_of (input_number end) b.len.0 → (ltb j i || ltb i (gone_of b)) ≡ false → Mergeful b i j run other
 mergeful {b} {run} {other} {i} {j} end v p ee n = record {
   held = v;
   whole = p;
@@ -131,65 +117,41 @@ flags-range : {b : Buffer} {run other : List ℕ} {s e : ℕ} → Mergeful b s e
 flags-range {b} {run} {other} v = record { order = v.order; same = glyphs-same run other v.held.same; fits = omega (arith, v.end, v.held.len-in, v.held.all_in) }
 
 -- ---- what the calls come to, by their tests
-module _ {concat : Bool} {start end : InputBound} {b : Buffer} {f s : List ℕ} {v : Verdict} where
-  pub plain-unsound : sound b f s ≡ false → Leaves b false (No Contradiction) v → FlagsInput concat start end b f s v
-  plain-unsound h w = record { is = λ interiorly bits. decided-unsound h w }
+module _ {concat : Bool} {start end : Option InputPlace} {b : Buffer} {f s : List ℕ} {v : Decision} where
+  pub plain-unsound : sound b f s ≡ false → Turned Contradiction v → FlagsInput concat start end b f s v
+  plain-unsound h w = record { is = λ interiorly bits es' ee'. decided-unsound h w }
 
   module _ (h : sound b f s ≡ true) where
-    pub plain-spoiled : spoiled_phase b.phase ≡ true → Leaves b false (No WrongPhase) v → FlagsInput concat start end b f s v
-    plain-spoiled k w = record { is = λ interiorly bits. decided-refused h (record { law = λ run other l. plain-in-spoiled interiorly _ _ (input_bound start) (input_bound end) _ (spoiled-of b run other ∙ k) }) w }
+    pub plain-spoiled : spoiled_phase b.phase ≡ true → Turned WrongPhase v → FlagsInput concat start end b f s v
+    plain-spoiled k w = record { is = λ interiorly bits es' ee'. decided-refused h (record { law = λ run other l. plain-in-spoiled interiorly _ _ start end _ (spoiled-of b run other ∙ k) }) w }
 
     module _ {far idle : Bool} (p : spoiled_phase b.phase ≡ false) (ef : far ≡ too_far (input_number start) (input_number end)) (ei : idle ≡ (not (not concat || wants_concat b.wants) || far)) where
-      pub plain-idle : idle ≡ true → Leaves b false Done v → FlagsInput concat start end b f s v
+      pub plain-idle : idle ≡ true → Leaves b false None v → FlagsInput concat start end b f s v
       plain-idle k w = record {
-        is = λ interiorly bits. decided-accepted h (accepts Done refl (near_same b) (λ run other l.
-            (plain-in-idle interiorly _ _ (input_bound start) (input_bound end) _ (spoiled-of b run other ∙ p) (idle-of b run other concat _ ef ei ∙ k), l.held))) w;
+        is = λ interiorly bits es' ee'. decided-accepted h (accepts None (near_same b) (λ run other l.
+            (plain-in-idle interiorly _ _ start end _ (spoiled-of b run other ∙ p) (idle-of b run other concat _ ef ei ∙ k), l.held))) w;
       }
 
       module _ {i j : ℕ} {out : Bool} (n : idle ≡ false) (es : i ≡ start_of (input_number start)) (ee : j ≡ end_of (input_number end) b.len.0) (eo : out ≡ (ltb j i || ltb i (gone_of b))) where
-        pub plain-outside : out ≡ true → Leaves b false (No OutOfRange) v → FlagsInput concat start end b f s v
+        pub plain-outside : out ≡ true → Turned OutOfRange v → FlagsInput concat start end b f s v
         plain-outside y w = record {
-          is = λ interiorly bits. decided-refused h (record {
+          is = λ interiorly bits es' ee'. decided-refused h (record {
             law = λ run other l.
-                plain-in-outside interiorly _ _ (input_bound start) (input_bound end) _ (spoiled-of b run other ∙ p) (idle-of b run other concat _ ef ei ∙ n) es (end-of end l.held p ee) (sym (gone-of b run other)) (sym eo ∙ y);
+                plain-in-outside interiorly _ _ start end _ (spoiled-of b run other ∙ p) (idle-of b run other concat _ ef ei ∙ n) es (end-of end l.held p ee) (sym (gone-of b run other)) (sym eo ∙ y);
           }) w;
         }
 
-        pub plain-ahead : out ≡ false → Leaves b true Done v → FlagsInput concat start end b f s v
+        pub plain-ahead : out ≡ false → Leaves b true None v → FlagsInput concat start end b f s v
         plain-ahead y w = record {
-          is = λ interiorly bits. rw (← es, ← ee) (decided-does h (record {
+          is = λ interiorly bits es' ee'. rw (es' ∙ sym es, ee' ∙ sym ee) (decided-does h (record {
             near = near_same b;
             none = λ c. absurd (false≢true (sym c));
             law = λ run other run' other' l lr lo act.
                 rw act.other-is (in-acts (plain-acts (mergeful end l.held p ee (sym eo ∙ y)) (bits b.wants) run' interiorly lr act.run_is)
-                (plain-in-flags interiorly _ _ (input_bound start) (input_bound end) _ (spoiled-of b run other ∙ p) (idle-of b run other concat _ ef ei ∙ n) es (end-of end l.held p ee) (sym (gone-of b run other)) (sym eo ∙ y)
+                (plain-in-flags interiorly _ _ start end _ (spoiled-of b run other ∙ p) (idle-of b run other concat _ ef ei ∙ n) es (end-of end l.held p ee) (sym (gone-of b run other)) (sym eo ∙ y)
                 ∙ ap (λ (x : ℕ). accepted (flag_plain interiorly (bits x) (i - gone_of b) (j - gone_of b) (account_of b run other))) (wants-of b run other)) refl);
           }) (λ c. flags-range (mergeful end (sound-held b f s h) p ee (sym eo ∙ y))) w);
         }
-
--- ---- the exported calls
-module _ {concat : Bool} {start end : InputBound} {b : Buffer} {f s : List ℕ} {v : Verdict} (d : FlagsInput concat start end b f s v) where
-  pub plain-asked : {i j : ℕ} → v.acts ≡ true → i ≡ start_of (input_number start) → j ≡ end_of (input_number end) b.len.0 → Flaggable i j f s
-  plain-asked t es ee = rw (es, ee) ((d.is true (λ n. 0)).asked t)
-
-module _ {start end : InputBound} {b : Buffer} {f s : List ℕ} {v : Verdict} where
-  pub plain-break : FlagsInput false start end b f s v → Decided (λ capacity a. plain_form true true 3 (input_bound start) (input_bound end) a) b f s (settled b v) v.acts (Flaggable (start_of (input_number start)) (end_of (input_number end) b.len.0) f s) (Flagged true (search_level (read_level b.level) b.wants) 3 (start_of (input_number start)) (end_of (input_number end) b.len.0))
-  plain-break d = d.is true (λ n. 3)
-
-  pub plain-concat : FlagsInput true start end b f s v → Decided (λ capacity a. plain_form false (wants_concat a.state.wants) 2 (input_bound start) (input_bound end) a) b f s (settled b v) v.acts (Flaggable (start_of (input_number start)) (end_of (input_number end) b.len.0) f s) (Flagged false (search_level (read_level b.level) b.wants) 2 (start_of (input_number start)) (end_of (input_number end) b.len.0))
-  plain-concat d = d.is false (λ n. 2)
-
-  pub plain-tatweel : FlagsInput false start end b f s v → Decided (λ capacity a. plain_form true true (cond (wants_tatweel a.state.wants) 4 3) (input_bound start) (input_bound end) a) b f s (settled b v) v.acts (Flaggable (start_of (input_number start)) (end_of (input_number end) b.len.0) f s) (Flagged true (search_level (read_level b.level) b.wants) (cond (wants_tatweel b.wants) 4 3) (start_of (input_number start)) (end_of (input_number end) b.len.0))
-  plain-tatweel d = d.is true (λ n. cond (wants_tatweel n) 4 3)
-
--- an act, by the numbers that the code has for its bits and places
-pub flagged-at : {y interiorly : Bool} {level level' x x' i i' j j' : ℕ} {f s f' s' : List ℕ} → Sided y (Flagged interiorly level x i j) f s f' s' → level ≡ level' → x ≡ x' → i ≡ i' → j ≡ j' → Sided y (Flagged interiorly level' x' i' j') f s f' s'
-flagged-at w el ex ei ej = rw (← el, ← ex, ← ei, ← ej) w
-
--- every glyph is marked alike at all levels
-pub all-at : {y : Bool} {level level' x i i' j j' : ℕ} {f s f' s' : List ℕ} → Sided y (Flagged false level x i j) f s f' s' → i ≡ i' → j ≡ j' → Sided y (Flagged false level' x i' j') f s f' s'
-unfolding flagged_run
-all-at w ei ej = rw (← ei, ← ej) (sided-as (λ run other run' other' d. record { run_is = d.run_is; other-is = d.other-is }) w)
 
 module _ (wants : ℕ) where
   pub tatweel-wanted : wants / 2 % 2 ≡ 1 → ◌≡◌ {A = ℕ} 4 (cond (wants_tatweel wants) 4 3)
@@ -199,6 +161,9 @@ module _ (wants : ℕ) where
   tatweel-unwanted h = rw (ne_eqb (wants / 2 % 2) 1 h)
 
 -- for the proofs of functions
-pub ruleset flag-calls = (soundness, tested, plain-unsound, plain-spoiled, plain-idle, plain-outside, plain-ahead, plain-asked, plain-break, plain-concat, plain-tatweel, flagged-at, all-at)
+pub ruleset flag_calls = (turned, soundness, tested, plain-unsound, plain-spoiled, plain-idle, plain-outside, plain-ahead)
 
-pub ruleset flag-tests = (past, not-past, idle-wanted, idle-unwanted, start-past, tatweel-wanted, tatweel-unwanted)
+pub ruleset flag_tests = (tatweel-wanted, tatweel-unwanted)
+
+pub flaggable-turned : {i j : ℕ} {f s : List ℕ} → Flaggable i j f s → Flaggable i j s f
+flaggable-turned w = record { order = w.order; same = sym w.same; fits = omega (arith, w.same, w.fits) }

@@ -212,4 +212,4 @@ sought-empty level i cs = rw (slice_empty i cs) (same (is 2 level))
     same false = refl
 
 -- for the proofs of functions
-pub ruleset flag-laws = (interior-all, interior-part, of-first, of-last, part-order, part_end, marks-seeks, marks-first, marks-last, sought-least, sought-ends, interior-of)
+pub ruleset flag_laws = (interior-all, interior-part, of-first, of-last, part-order, part_end, marks-seeks, marks-first, marks-last, sought-least, sought-ends, interior-of)

@@ -50,6 +50,6 @@ pub entry_in : {table : List ℕ} → table ≡ flag_table → {place : ℕ} →
 unfolding EveryEntry
 entry_in same h = rw (same, every-entry.0) h
 
-pub entry-is : {table : List ℕ} → table ≡ flag_table → (wants : ℕ) {joined : ℕ} → joined < 8 → get_or table (8 * (wants % 4) + joined) 0 ≡ settled_mask wants joined
+pub entry_is : {table : List ℕ} → table ≡ flag_table → (wants : ℕ) {joined : ℕ} → joined < 8 → get_or table (8 * (wants % 4) + joined) 0 ≡ settled_mask wants joined
 unfolding EveryEntry
-entry-is same wants {joined} low = ap (λ (l : List ℕ). get_or l (8 * (wants % 4) + joined) 0) same ∙ every-entry.1 wants joined low
+entry_is same wants {joined} low = ap (λ (l : List ℕ). get_or l (8 * (wants % 4) + joined) 0) same ∙ every-entry.1 wants joined low

@@ -2,10 +2,10 @@
 use mathlib.Core.{Path.◌≡◌, Path.refl, Path.ap, Path.ap₂, Path.sym, Path.◌∙◌, Bool.Bool, Bool.true, Bool.false, Bool.cond, List.List, List.[], List.◌∷◌, List.map}
 use Rattle.std.proofs.Common.{ℕ, suc, ◌+◌, ◌-◌, ◌<◌, ◌≤◌, add-one, arith, eqb-true}
 use lib.{ListN.take, ListN.drop, ListN.length, ListN.get_or, ListN.length-map, ListN.length-drop, ListN.drop_of_length-le, ListN.get_or-map, Seq.slice, Seq.drop-cons, Seq.drop-drop, Seq.get_or-take, Seq.length-take-le}
-use Rattle.records.specs.{Phase, Position, Glyphs.Glyph, Glyphs.Info, Glyphs.with_position, Glyphs.blank, Glyphs.key, Ranges.infos, Ranges.clusters, Ranges.heads, Ranges.is, Ranges.isnt, View.glyphs, View.positions_in}
+use Rattle.records.specs.{Phase, Position, Glyphs.Info, Glyphs.with_position, Glyphs.blank, Glyphs.key, Ranges.infos, Ranges.clusters, Ranges.heads, Ranges.is, Ranges.isnt, View.glyphs, View.positions_in}
 use Rattle.lists.specs.{Account.spoiled_phase, Contract.shown}
 use Rattle.lists.proofs.{Runs.heads-le, Infos.map-drop, Infos.words_take, Infos.clusters-infos, Accounts.length-shown}
-use Rattle.edits.specs.Groups.{joins, group_sizes, same_cluster, continues}
+use Rattle.edits.specs.{Groups.joins, Groups.group_sizes, Groups.same_cluster, Groups.continues, inner.Reversals.Group, inner.Reversals.EndsGroup}
 use Rattle.records.proofs.Pairs.{key-alone, cluster-alone}
 use Rattle.lists.proofs.Showing.{on-shown}
 use Rattle.records.proofs.Apart.{words-paired}
@@ -41,12 +41,6 @@ module _ (p : Info → Info → Bool) (f : Info → ℕ) (q : ℕ → Bool) (goe
 module _ (f : Info → ℕ) (bare : (p : Position) (i : Info) → f (with_position p i) ≡ f i) where
   pub words-shown : (p : Phase) (run other : List ℕ) → spoiled_phase p ≡ false → map f (infos (shown p run other)) ≡ map f (infos (glyphs run))
   words-shown p run other h = on-shown (λ x. map f (infos (x run other)) ≡ map f (infos (glyphs run))) p h refl (words-paired f bare (glyphs run) (positions_in other))
-
--- ---- of the first len glyphs of a run, a group from s to e
-pub record Group (p : Info → Info → Bool) (l : List (Glyph ℕ)) (len s e : ℕ) : Type 0 where
-  pub after : s < e
-  pub inside : e ≤ len
-  pub is : group_sizes p (drop s (infos (take len l))) ≡ (e - s) ∷ group_sizes p (drop e (infos (take len l)))
 
 module _ (phase : Phase) (run other : List ℕ) {len : ℕ} (clean : spoiled_phase phase ≡ false) (fits : len ≤ length (glyphs run)) where
   length_seen : length (infos (take len (shown phase run other))) ≡ len
@@ -97,6 +91,14 @@ module _ (phase : Phase) (run other : List ℕ) {len : ℕ} (clean : spoiled_pha
           ∙ (ap (λ (r : List ℕ). get_or r s 4294967295) (seen-words (λ i. i.cluster) cluster-alone)
           ∙ (get_or-take len (map (λ i. i.cluster) (infos (glyphs run))) s 4294967295 o
           ∙ ap (λ (r : List ℕ). get_or r s 4294967295) (sym (clusters-infos (glyphs run)))))
+
+-- where the group at place s ends, whatever shows the run
+module _ {run : List ℕ} {len s e : ℕ} (w : (s < len) × (len ≤ length (glyphs run))) where
+  pub ends-grapheme : (slot mask : ℕ) → e ≡ s + 1 + heads (isnt 0) (slice (s + 1) len (map (key slot mask) (infos (glyphs run)))) → EndsGroup (continues slot mask) run s len e
+  ends-grapheme slot mask ee = record { is = λ phase other clean. grapheme-group phase run other clean w.1 slot mask w.0 ee }
+
+  pub ends-cluster : e ≡ s + 1 + heads (is (get_or (clusters (glyphs run)) s 4294967295)) (slice (s + 1) len (clusters (glyphs run))) → EndsGroup same_cluster run s len e
+  ends-cluster ee = record { is = λ phase other clean. cluster-group phase run other clean w.1 w.0 ee }
 
 -- ---- groups go by f alone
 -- the same of numbers

@@ -1,11 +1,10 @@
 -- The loop that turns the groups of a run round, one after the other.
-use mathlib.Core.{Path.◌≡◌, Path.refl, Path.◌∙◌, Bool.Bool, List.List, List.map}
-use Rattle.std.proofs.Common.{ℕ, ◌+◌, ◌-◌, ◌<◌, ◌≤◌, zero-le, le_refl, arith}
-use lib.{ListN.length, ListN.take, ListN.drop, ListN.get_or, Seq.slice}
-use Rattle.records.specs.{Phase, Glyphs.Info, Glyphs.key, Ranges.infos, Ranges.clusters, Ranges.heads, Ranges.is, Ranges.isnt, View.glyphs, View.positions_in}
+use mathlib.Core.{Path.◌≡◌, Path.refl, Path.◌∙◌, Bool.Bool, List.List}
+use Rattle.std.proofs.Common.{ℕ, ◌-◌, ◌<◌, ◌≤◌, zero-le, le_refl, arith}
+use lib.{ListN.length, ListN.take, ListN.drop}
+use Rattle.records.specs.{Phase, Glyphs.Info, Ranges.infos, View.glyphs, View.positions_in}
 use Rattle.lists.specs.{Contract.shown}
-use Rattle.edits.specs.{Groups.group_sizes, Groups.same_cluster, Groups.continues, Groups.regrouped, inner.Wholes.RunOf, inner.Reversals.Turns, inner.Reversals.Rearranges, inner.Reversals.TurnsGraphemes}
-use Rattle.edits.proofs.GroupLaws.{Group, cluster-group, grapheme-group}
+use Rattle.edits.specs.{Groups.group_sizes, Groups.regrouped, inner.Wholes.RunOf, inner.Reversals.Turns, inner.Reversals.Rearranges, inner.Reversals.Group, inner.Reversals.EndsGroup}
 use Rattle.edits.proofs.Regroups.{Regrouping, regrouping-none, regrouping-more, regrouping-done}
 use Rattle.edits.proofs.ReverseCalls.{shown-length, turns-rearrange}
 use Rattle.edits.proofs.WholeCalls.{run-lengths, run-shorter}
@@ -56,12 +55,8 @@ module _ {p : Info → Info → Bool} {phase : Phase} {n : ℕ} where
     }
 
 -- ---- where the group at place i ends
-module _ {p : Info → Info → Bool} {phase : Phase} {n : ℕ} {run₀ other₀ run other : List ℕ} {i : ℕ} (v : GroupTurning p phase n run₀ other₀ run other i) {e : ℕ} (o : i < n) where
-  pub at-cluster : e ≡ i + 1 + heads (is (get_or (clusters (glyphs run)) i 4294967295)) (slice (i + 1) n (clusters (glyphs run))) → Group same_cluster (shown phase run other) n i e
-  at-cluster ee = cluster-group phase run other v.whole.clean v.whole.room.fits o ee
-
-  pub at-grapheme : (slot mask : ℕ) → e ≡ i + 1 + heads (isnt 0) (slice (i + 1) n (map (key slot mask) (infos (glyphs run)))) → Group (continues slot mask) (shown phase run other) n i e
-  at-grapheme slot mask ee = grapheme-group phase run other v.whole.clean v.whole.room.fits slot mask o ee
+pub at-group : {p : Info → Info → Bool} {phase : Phase} {n : ℕ} {run₀ other₀ run other : List ℕ} {i e : ℕ} → GroupTurning p phase n run₀ other₀ run other i → EndsGroup p run i n e → Group p (shown phase run other) n i e
+at-group {phase = phase} {other = other} v w = w.is phase other v.whole.clean
 
 -- what the turn of a group asks for
 module _ {p : Info → Info → Bool} {phase : Phase} {n : ℕ} {run₀ other₀ run other : List ℕ} {i : ℕ} (v : GroupTurning p phase n run₀ other₀ run other i) {e : ℕ} (g : Group p (shown phase run other) n i e) where
@@ -74,13 +69,9 @@ module _ {p : Info → Info → Bool} {phase : Phase} {n : ℕ} {run₀ other₀
   pub turning-less : n - e < n - i
   turning-less = omega (arith, g.after, g.inside)
 
--- the groups of one cluster
-pub clusters-done : {phase : Phase} {n i : ℕ} {run₀ other₀ run other run' other' : List ℕ} → GroupTurning same_cluster phase n run₀ other₀ run other i → n ≤ i → Turns phase 0 n run other run' other' → Rearranges (λ l. regrouped (group_sizes same_cluster (infos l)) l) phase n run₀ other₀ run' other'
-clusters-done v o t = groups-done v o t
-
--- and the graphemes
-pub graphemes-done : (slot mask : ℕ) {phase : Phase} {n i : ℕ} {run₀ other₀ run other run' other' : List ℕ} → GroupTurning (continues slot mask) phase n run₀ other₀ run other i → n ≤ i → Turns phase 0 n run other run' other' → TurnsGraphemes phase n slot mask run₀ other₀ run' other'
-graphemes-done slot mask v o t = record { is = groups-done v o t }
+-- what its end asks for
+pub turning-fits : {p : Info → Info → Bool} {phase : Phase} {n : ℕ} {run₀ other₀ run other : List ℕ} {i : ℕ} → GroupTurning p phase n run₀ other₀ run other i → n ≤ length (glyphs run)
+turning-fits v = v.whole.room.fits
 
 -- for the proofs of functions
-pub ruleset group-turning = (groups_none, groups-more, at-cluster, at-grapheme, turning-order, turning-run, turning-less, clusters-done, graphemes-done)
+pub ruleset group_turning = (groups_none, groups-more, at-group, groups-done, turning-order, turning-run, turning-less, turning-fits)

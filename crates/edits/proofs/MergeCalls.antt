@@ -1,8 +1,9 @@
 -- Merges of a buffer's lists: from what the slice workers leave to the account.
+use Rattle.std.specs.Prelude.{Ok, None}
 use mathlib.Core.{Path.◌≡◌, Path.refl, Path.sym, Path.ap, Path.◌∙◌, Path.subst, Bool.Bool, Bool.true, Bool.false, Bool.cond, Bool.◌&&◌, Bool.◌||◌, Bool.false≢true, List.List}
 use Rattle.std.proofs.Common.{ℕ, ◌-◌, ◌<◌, ◌≤◌, arith, ltb-false, le-ltb, lt-ltb, eq-eqb, ne_eqb}
 use lib.{Dec.eqb, Dec.ltb, ListN.length, ListN.take, ListN.drop, Seq.slice}
-use Rattle.records.specs.{Phase, Plain, Output, Positions, Spoiled, InputPlace, Done, Limits, Glyphs.Glyph, Counters.capacity_of, Counters.costs, Ranges.clusters, View.glyphs, View.positions_in, View.words_from}
+use Rattle.records.specs.{Phase, Plain, Output, Positions, Spoiled, InputPlace, Limits, Glyphs.Glyph, Counters.capacity_of, Counters.costs, Ranges.clusters, View.glyphs, View.positions_in, View.words_from}
 use Rattle.records.proofs.View.{glyphs-same, beyond-glyphs}
 use Rattle.lists.proofs.Changed.{account-limits, limits-limits, own-limits, state-own, state-paid, paid-size}
 use Rattle.lists.proofs.Showing.{on-shown, gone-in}
@@ -145,7 +146,7 @@ module _ {b : Buffer} {run other : List ℕ} (v : Held b run other) where
 
 -- a call that was accepted leaves what was done
 pub in-acts : {call : ℕ → Account ℕ → Result ℕ} {h : Account ℕ → Account ℕ} {b f : Buffer} {run other run' other' : List ℕ} {r : Reply} → Acts h b run other f run' other'
-    → call (capacity_of (length run)) (account_of b run other) ≡ accepted (h (account_of b run other)) → r ≡ reply f Done → MeetsIn call b run other r run' other'
+    → call (capacity_of (length run)) (account_of b run other) ≡ accepted (h (account_of b run other)) → r ≡ reply f (Ok None) → MeetsIn call b run other r run' other'
 in-acts {call} {h} {b} {f} {run} {other} {run'} {other'} u e er =
     in-accepted f u.side
     (subst (λ (n : ℕ). words_from n run' ≡ words_from n run) (sym u.size) u.run-beyond)
@@ -214,17 +215,17 @@ module _ (b : Buffer) where
   gone_at p h e = rw (gone-in b, h) e
 
   module _ (s e : ℕ) where
-    pub outside-order : e < s → true ≡ (ltb e s || (ltb b.len.0 e || ltb s (gone_of b)))
+    pub outside-order : e < s → ltb e s ≡ (ltb e s || (ltb b.len.0 e || ltb s (gone_of b)))
     outside-order h = rw (lt-ltb e s h)
 
-    pub outside-end : s ≤ e → b.len.0 < e → true ≡ (ltb e s || (ltb b.len.0 e || ltb s (gone_of b)))
+    pub outside-end : s ≤ e → b.len.0 < e → ltb b.len.0 e ≡ (ltb e s || (ltb b.len.0 e || ltb s (gone_of b)))
     outside-end o h = rw (le-ltb e s o, lt-ltb b.len.0 e h)
 
     pub outside-start : {g : ℕ} → s ≤ e → e ≤ b.len.0 → g ≡ gone_of b → ltb s g ≡ (ltb e s || (ltb b.len.0 e || ltb s (gone_of b)))
     outside-start {g} o h k = rw (le-ltb e s o, le-ltb b.len.0 e h) (ap (ltb s) k)
 
 module _ {level k : ℕ} (e : level ≡ k) where
-  pub level-none : level ≡ 0 → true ≡ graphemes_merge k
+  pub level-none : level ≡ 0 → eqb level 0 ≡ graphemes_merge k
   level-none h = rw (← e, eq-eqb level 0 h)
 
   pub level-some : (level ≡ 0 → ⊥) → eqb level 3 ≡ graphemes_merge k
@@ -260,4 +261,4 @@ module _ {b : Buffer} {run other : List ℕ} (v : Held b run other) (s e : Input
         }
 
 -- for the proofs of functions
-pub ruleset merge-tests = (outside-order, outside-end, outside-start, level-none, level-some)
+pub ruleset merge_tests = (outside-order, outside-end, outside-start, level-none, level-some)

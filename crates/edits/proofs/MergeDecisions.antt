@@ -1,19 +1,24 @@
 -- Merges by places, and what 11 and 13 come to, outcome by outcome.
+use Rattle.lists.specs.inner.Held.{Test}
+use Rattle.lists.proofs.Decisions.{turned}
+use Rattle.lists.specs.inner.States.{Decision}
+use Rattle.lists.specs.inner.Verdicts.{acts_of, Turned}
+use Rattle.std.specs.Prelude.{None}
 use mathlib.Core.{Path.◌≡◌, Path.refl, Path.sym, Path.ap, Path.◌∙◌, Bool.Bool, Bool.true, Bool.false, Bool.cond, Bool.◌||◌, Bool.false≢true, List.List}
 use Rattle.std.proofs.Common.{ℕ, ◌-◌, ◌<◌, ◌≤◌, arith, ltb-false, le-ltb, lt-ltb, le-leb}
 use native.Mathlib.Nat.{sub-zero}
 use borrow.Author.Tests.{lt-leb}
 use lib.{Dec.ltb, ListN.length, ListN.drop, Seq.slice}
-use Rattle.records.specs.{InputPlace, Contradiction, WrongPhase, OutOfRange, Done, No, Limits, Counters.costs, Ranges.clusters, View.glyphs}
+use Rattle.records.specs.{InputPlace, Contradiction, WrongPhase, OutOfRange, Limits, Counters.costs, Ranges.clusters, View.glyphs}
 use Rattle.records.proofs.View.{glyphs-same}
-use Rattle.lists.specs.{declared.Buffer.Buffer, declared.Verdict.Verdict}
-use Rattle.lists.specs.{Account.Account, Account.read_level, Account.spoiled_phase, Account.is_spoiled, Account.refused, Account.accepted, Contract.gone_of, Contract.account_of, Contract.sound, inner.Held.Soundness, inner.States.with_limits_of, inner.Verdicts.Leaves, inner.Verdicts.settled, inner.Verdicts.Sided, inner.Verdicts.Decided}
+use Rattle.lists.specs.{declared.Buffer.Buffer}
+use Rattle.lists.specs.{Account.Account, Account.read_level, Account.spoiled_phase, Account.is_spoiled, Account.refused, Account.accepted, Contract.gone_of, Contract.account_of, Contract.sound, inner.Held.Tested, inner.States.with_limits_of, inner.Verdicts.Leaves}
 use Rattle.lists.proofs.{Accounts.spoiled-of, Accounts.level-of, Accounts.gone-of, SoundLaws.sound-held}
 use Rattle.lists.proofs.Decisions.{near-limits, leaves-as, decided-unsound, decided-refused, decided-does}
 use Rattle.lists.proofs.SoundLaws.{soundness}
 use Rattle.lists.proofs.Refusing.{refusing}
 use Rattle.records.proofs.Tests.{tested}
-use Rattle.edits.specs.{inner.Acts.Acts, inner.Acts.Mergeful, inner.Charges.running, inner.Charges.MergesRun, Flags.interior, Flags.search_level, Flags.sought, Merging.merge, Merging.merged, Merging.merge_input, Merging.outside_input, Merging.clusters_merge, Merging.graphemes_merge, inner.Plans.WrittenApart, inner.Plans.WrittenWithin}
+use Rattle.edits.specs.{inner.Acts.Acts, inner.Acts.Mergeful, inner.Charges.running, inner.Charges.MergesRun, Flags.interior, Flags.search_level, Flags.sought, Merging.merge, Merging.merged, Merging.merge_input, Merging.outside_input, inner.Plans.WrittenApart, inner.Plans.WrittenWithin}
 use Rattle.edits.specs.inner.MergeActs.{merge_limits, lies_apart, MergeRoom, Merges, MergesInput}
 use Rattle.edits.proofs.{Chaining.acts-as, MergeLaws.merged-apart, MergeLaws.merged-within, WholeInputs.whole-gone}
 use Rattle.edits.proofs.Charging.{limits-running}
@@ -75,15 +80,12 @@ module _ {b : Buffer} {run other : List ℕ} {s e : ℕ} (v : Mergeful b s e run
     at-within {run'} h a lr w = let m = merged-within (ready-within v two) (from-gone v) (out-low v a) w.is in costly h lr refl m.behind refl (within-is v run' a two w.is)
 
 -- ---- the act
-module _ {x apart merges : Bool} {level wants idx len out_length s e : ℕ} {f g : List ℕ} where
-  nothing : ((run other : List ℕ) → Merges apart merges level wants idx len out_length s e run other run other) → Sided x (Merges apart merges level wants idx len out_length s e) f g f g
-  nothing w = record { first = λ z. w f g; second = λ z. w g f }
+module _ {apart merges : Bool} {level wants idx len out_length s e : ℕ} {run other : List ℕ} where
+  pub merges-few : e - s < 2 → Merges apart merges level wants idx len out_length s e run other run other
+  merges-few few = record { acts = λ b a v. at_none v merges few; apart-only = λ z. refl }
 
-  pub merges-few : e - s < 2 → Sided x (Merges apart merges level wants idx len out_length s e) f g f g
-  merges-few few = nothing (λ run other. record { acts = λ b a v. at_none v merges few; apart-only = λ z. refl })
-
-  pub merges-far : 2 ≤ e - s → merges ≡ false → 255 < e - s → Sided x (Merges apart merges level wants idx len out_length s e) f g f g
-  merges-far two h far = nothing (λ run other. record { acts = λ b a v. at-over v merges two h far; apart-only = λ z. refl })
+  pub merges-far : 2 ≤ e - s → merges ≡ false → 255 < e - s → Merges apart merges level wants idx len out_length s e run other run other
+  merges-far two h far = record { acts = λ b a v. at-over v merges two h far; apart-only = λ z. refl }
 
 module _ {apart merges : Bool} {level wants idx len out_length s e : ℕ} {run other run' other' : List ℕ} (two : 2 ≤ e - s) where
   pub merges-apart : merges ≡ true → apart ≡ true → length run' ≡ length run → length other' ≡ length other → WrittenApart idx len out_length s e (glyphs run) (glyphs other) (glyphs run') (glyphs other') → Merges apart merges level wants idx len out_length s e run other run' other'
@@ -101,19 +103,22 @@ pub room_of : {b : Buffer} {s e : ℕ} {run other : List ℕ} → Mergeful b s e
 room_of {b} {s} {e} {run} {other} v = record { order = v.order; end = v.end; fits = omega (arith, v.held.len-in, v.held.all_in); out-fits = omega (arith, v.held.out-in, v.held.all_in); same = glyphs-same run other v.held.same }
 
 -- of a whole run
-pub run-merges : {merges : Bool} {level wants n s e : ℕ} {run other run' other' : List ℕ} → Sided false (Merges false merges level wants 0 n 0 s e) run other run' other' → MergeRoom n 0 s e run other → MergesRun merges level wants n s e run other run' other'
+pub run-merges : {merges : Bool} {level wants n s e : ℕ} {run other run' other' : List ℕ} → Merges false merges level wants 0 n 0 s e run other run' other' → MergeRoom n 0 s e run other → MergesRun merges level wants n s e run other run' other'
 run-merges {merges} {level} {wants} {n} {s} {e} {run} {other} {run'} {other'} w m = record {
   is = λ l. record {
     acts = λ b v.
         let y = running level wants n l b in
         let gone : gone_of y ≡ 0 = whole-gone v in
-        let u : Acts (merge merges (s - gone_of y) (e - gone_of y)) y run other (with_limits_of (merge_limits merges (e - s) l) y) run' other' = (w.first refl).acts y (rw v.plain) (record { held = v.held; whole = v.clean; start = omega (arith, gone); order = m.order; end = m.end }) in
+        let u : Acts (merge merges (s - gone_of y) (e - gone_of y)) y run other (with_limits_of (merge_limits merges (e - s) l) y) run' other' = w.acts y (rw v.plain) (record { held = v.held; whole = v.clean; start = omega (arith, gone); order = m.order; end = m.end }) in
         acts-as (rw (limits-running level wants n l (merge_limits merges (e - s) l) b) at u) (ap (λ (k : ℕ). merge merges (s - k) (e - k) (account_of y run other)) gone ∙ rw (sub-zero s, sub-zero e));
   };
 }
 
+pub run-few : {merges : Bool} {level wants n s e : ℕ} {run other : List ℕ} → e - s < 2 → MergeRoom n 0 s e run other → MergesRun merges level wants n s e run other run other
+run-few few m = run-merges (merges-few few) m
+
 -- the verdict on one that goes ahead
-pub leaves-paid : (b : Buffer) (merges : Bool) (n : ℕ) {x : Buffer} {l : Limits} {v : Verdict} → l ≡ merge_limits merges n b.limits → x ≡ with_limits_of l b → Leaves x true Done v → Leaves (with_limits_of (merge_limits merges n b.limits) b) true Done v
+pub leaves-paid : (b : Buffer) (merges : Bool) (n : ℕ) {x : Buffer} {l : Limits} {v : Decision} → l ≡ merge_limits merges n b.limits → x ≡ with_limits_of l b → Leaves x true None v → Leaves (with_limits_of (merge_limits merges n b.limits) b) true None v
 leaves-paid b merges n el ex w = leaves-as (ex ∙ ap (λ (y : Limits). with_limits_of y b) el) w
 
 -- ---- 11 and 13
@@ -130,22 +135,22 @@ module _ (at : ℕ → Bool) (s e : InputPlace) (a : Account ℕ) where
   unfolding merge_input
   input-merges h k = simp (h, k, refusing)
 
-pub outside-ordered : {b : Buffer} {f g : List ℕ} {x t : Bool} {s e : ℕ} → Soundness b f g x → t ≡ (ltb e s || (ltb b.len.0 e || ltb s (gone_of b))) → t ≡ false → s ≤ e
+pub outside-ordered : {b : Buffer} {f g : List ℕ} {x : Test} {t : Bool} {s e : ℕ} → Tested b f g x → t ≡ (ltb e s || (ltb b.len.0 e || ltb s (gone_of b))) → t ≡ false → s ≤ e
 outside-ordered {b} {f} {g} {x} {t} {s} {e} w et h = ltb-false e s (neither_left (ltb e s) _ (sym et ∙ h))
 
-module _ {merges : Bool} {s e : InputPlace} {b : Buffer} {f g : List ℕ} {v : Verdict} where
-  pub merge-unsound : sound b f g ≡ false → Leaves b false (No Contradiction) v → MergesInput merges s e b f g v
+module _ {merges : Bool} {s e : InputPlace} {b : Buffer} {f g : List ℕ} {v : Decision} where
+  pub merge-unsound : sound b f g ≡ false → Turned Contradiction v → MergesInput merges s e b f g v
   merge-unsound h w = record { is = λ at em apart ea. decided-unsound h w }
 
   module _ (h : sound b f g ≡ true) where
-    pub merge-spoiled : spoiled_phase b.phase ≡ true → Leaves b false (No WrongPhase) v → MergesInput merges s e b f g v
+    pub merge-spoiled : spoiled_phase b.phase ≡ true → Turned WrongPhase v → MergesInput merges s e b f g v
     merge-spoiled p w = record { is = λ at em apart ea. decided-refused h (record { law = λ run other l. input-spoiled at s e _ (spoiled-of b run other ∙ p) }) w }
 
     module _ (p : spoiled_phase b.phase ≡ false) where
-      pub merge-outside : (ltb e.0 s.0 || (ltb b.len.0 e.0 || ltb s.0 (gone_of b))) ≡ true → Leaves b false (No OutOfRange) v → MergesInput merges s e b f g v
+      pub merge-outside : (ltb e.0 s.0 || (ltb b.len.0 e.0 || ltb s.0 (gone_of b))) ≡ true → Turned OutOfRange v → MergesInput merges s e b f g v
       merge-outside k w = record { is = λ at em apart ea. decided-refused h (record { law = λ run other l. input-outside at s e _ (spoiled-of b run other ∙ p) (outside_of l.held s e p ∙ k) }) w }
 
-      pub merge-goes : (ltb e.0 s.0 || (ltb b.len.0 e.0 || ltb s.0 (gone_of b))) ≡ false → Leaves (with_limits_of (merge_limits merges (e.0 - s.0) b.limits) b) true Done v → MergesInput merges s e b f g v
+      pub merge-goes : (ltb e.0 s.0 || (ltb b.len.0 e.0 || ltb s.0 (gone_of b))) ≡ false → Leaves (with_limits_of (merge_limits merges (e.0 - s.0) b.limits) b) true None v → MergesInput merges s e b f g v
       merge-goes k w = record {
         is = λ at em apart ea. decided-does h (record {
           near = near-limits b _;
@@ -158,21 +163,14 @@ module _ {merges : Bool} {s e : InputPlace} {b : Buffer} {f g : List ℕ} {v : V
       }
 
 -- at the end of the calls
-module _ {merges : Bool} {s e : InputPlace} {b : Buffer} {f g : List ℕ} {v : Verdict} (w : MergesInput merges s e b f g v) where
-  pub merge-room : v.acts ≡ true → MergeRoom b.len.0 b.out_len.0 s.0 e.0 f g
+module _ {merges : Bool} {s e : InputPlace} {b : Buffer} {f g : List ℕ} {v : Decision} (w : MergesInput merges s e b f g v) where
+  pub merge-room : acts_of v ≡ true → MergeRoom b.len.0 b.out_len.0 s.0 e.0 f g
   merge-room t = (w.is (λ level. merges) refl (lies_apart b) refl).asked t
 
-  module _ {apart : Bool} (ea : apart ≡ lies_apart b) where
-    abbrev InputDecided : (ℕ → Bool) → Type 0
-    InputDecided at = Decided (λ capacity a. merge_input at s e a) b f g (settled b v) v.acts (MergeRoom b.len.0 b.out_len.0 s.0 e.0 f g) (Merges apart merges b.level b.wants b.idx.0 b.len.0 b.out_len.0 s.0 e.0)
-
-    pub input-clusters : merges ≡ clusters_merge (read_level b.level) → InputDecided (λ level. clusters_merge level)
-    input-clusters em = w.is (λ level. clusters_merge level) em apart ea
-
-    pub input-graphemes : merges ≡ graphemes_merge (read_level b.level) → InputDecided (λ level. graphemes_merge level)
-    input-graphemes em = w.is (λ level. graphemes_merge level) em apart ea
+pub merge-turned : {run other : List ℕ} {len out_length s e : ℕ} → MergeRoom len out_length s e run other → MergeRoom len out_length s e other run
+merge-turned w = record { order = w.order; end = w.end; fits = omega (arith, w.fits, w.same); out-fits = omega (arith, w.out-fits, w.same); same = sym w.same }
 
 -- for the proofs of functions
-pub ruleset merge-calls = (soundness, tested, outside-ordered, merge-unsound, merge-spoiled, merge-outside, merge-goes, merge-room)
+pub ruleset merge_calls = (turned, soundness, tested, outside-ordered, merge-unsound, merge-spoiled, merge-outside, merge-goes, merge-room)
 
-pub ruleset merge-acts = (limits-paid, limits-few, limits-free, merges-few, merges-far, merges-apart, merges-within, merges-flags, run-merges, leaves-paid)
+pub ruleset merge_acting = (limits-paid, limits-few, limits-free, merges-few, merges-far, merges-apart, merges-within, merges-flags, run-merges, run-few, leaves-paid)

@@ -1,16 +1,19 @@
 -- A merge of each grapheme: no merge changes a key, so the groups of the rest stay.
+use Rattle.lists.specs.inner.Verdicts.{limiting_verdict}
+use Rattle.lists.specs.inner.States.{Decision}
 use mathlib.Core.{Path.◌≡◌, Path.refl, Path.ap, Path.ap₂, Path.sym, Path.◌∙◌, Bool.Bool, Bool.true, Bool.false, Bool.cond, Bool.◌&&◌, Bool.◌||◌, List.List, List.[], List.◌∷◌, List.◌++◌, List.map}
 use Rattle.std.proofs.Common.{ℕ, ◌+◌, ◌-◌, ◌<◌, ◌≤◌, arith}
 use lib.{Dec.ltb, ListN.take, ListN.drop, ListN.length, Seq.slice, Seq.drop-append_seam}
 use Rattle.records.specs.{Limits, Plain, WrongPhase, BadOperand, Glyphs.Glyph, Glyphs.Info, Glyphs.set_cluster, Glyphs.flagged, Glyphs.flagged_unless, Glyphs.key, Ranges.infos, Ranges.clusters, Ranges.edit, Ranges.is, Ranges.isnt, Ranges.least, Ranges.first_cluster, Ranges.last_cluster, Ranges.heads, Ranges.tails, View.glyphs}
 use Rattle.records.proofs.View.{glyphs-same}
 use Rattle.records.proofs.Apart.{key_set, key-flagged, key-unless}
-use Rattle.lists.specs.{declared.Buffer.Buffer, declared.Verdict.Verdict}
+use Rattle.lists.specs.{declared.Buffer.Buffer}
 use Rattle.lists.specs.{Account.read_level, Account.Account, Account.input, Account.with_input, Account.with_done, Account.paying, Account.limiting, Account.refused, Account.accepted, Contract.shown, Contract.account_of}
 use Rattle.lists.proofs.{Accounts.level-of, Infos.words-drop, Infos.words-edit}
 use Rattle.lists.proofs.Refusing.{refusing}
-use Rattle.edits.specs.{inner.Acts.Acts, inner.Charges.left_with, inner.Charges.DecidedBy, inner.Charges.running, inner.Charges.MergesRun, inner.Charges.MergesEach, inner.Charges.TakesKeyed, Flags.interior, Flags.sought, Flags.flag_interior, Groups.group_sizes, Groups.continues, Groups.merged_each, Groups.form_clusters, Merging.merge, Merging.merged, Merging.merge_start, Merging.merge_end, Merging.graphemes_merge, inner.MergeActs.merge_limits, inner.MergeActs.MergeRoom, WholeRun.not_whole, inner.Wholes.WholeInput, inner.Wholes.RunRoom}
-use Rattle.edits.proofs.{Chaining.acts-as, Chaining.acts-then, Searching.searching, Charging.OnKeyed, Charging.charges-acts, Charging.settles-left, Charging.keyed-decided, Charging.whole-after, MergeCalls.in-acts, MergeLaws.merge-order, WholeCalls.whole_room, WholeCalls.room-lengths, WholeInputs.account-whole, WholeInputs.not-not-whole, GroupLaws.Group, GroupLaws.no-group, GroupLaws.grapheme-group, GroupLaws.graphemes-same}
+use Rattle.edits.specs.{inner.Acts.Acts, inner.Charges.DecidedBy, inner.Charges.running, inner.Charges.MergesRun, inner.Charges.MergesEach, inner.Charges.TakesKeyed, Flags.interior, Flags.sought, Flags.flag_interior, Groups.group_sizes, Groups.continues, Groups.merged_each, Groups.form_clusters, Merging.merge, Merging.merged, Merging.merge_start, Merging.merge_end, Merging.graphemes_merge, inner.MergeActs.merge_limits, inner.MergeActs.MergeRoom, WholeRun.not_whole, inner.Wholes.WholeInput, inner.Wholes.RunRoom}
+use Rattle.edits.specs.inner.Reversals.{Group}
+use Rattle.edits.proofs.{Chaining.acts-as, Chaining.acts-then, Searching.searching, Charging.OnKeyed, Charging.charges-acts, Charging.settles-left, Charging.keyed-decided, Charging.whole-after, MergeCalls.in-acts, MergeLaws.merge-order, WholeCalls.whole_room, WholeCalls.room-lengths, WholeInputs.account-whole, WholeInputs.not-not-whole, GroupLaws.no-group, GroupLaws.grapheme-group, GroupLaws.graphemes-same}
 
 -- ---- the edits
 module _ {G : Type 0} (slot mask : ℕ) where
@@ -176,7 +179,7 @@ module _ (slot mask : ℕ) (a : Account ℕ) where
   forms h k = simp (h, k, refusing)
 
 module _ {slot : ℕ} (mask : ℕ) {b : Buffer} {merging : Bool} (em : merging ≡ graphemes_merge (read_level b.level)) where
-  form-on : OnKeyed Limits left_with (λ capacity a. form_clusters slot mask a) slot b (MergesEach merging b.level b.wants b.len.0 slot mask b.limits)
+  form-on : OnKeyed Limits limiting_verdict (λ capacity a. form_clusters slot mask a) slot b (MergesEach merging b.level b.wants b.len.0 slot mask b.limits)
   form-on = record {
     whole = record { refuses = λ capacity a h. form-not-whole slot mask a h };
     refuses = λ capacity a h k. form-bad slot mask a h k;
@@ -186,9 +189,9 @@ module _ {slot : ℕ} (mask : ℕ) {b : Buffer} {merging : Bool} (em : merging �
         ∙ ap (λ (y : Bool). accepted (merged_each y (group_sizes (continues slot mask) (infos (account_of b run other).rest)) 0 (account_of b run other))) (ap graphemes_merge (level-of b run other) ∙ sym em)) (settles-left b l);
   }
 
-  pub form-decided : {f s : List ℕ} {v : Verdict} → TakesKeyed slot b f s v
-      → DecidedBy Limits left_with (λ capacity a. form_clusters slot mask a) b f s v (RunRoom b.len.0 f s) (MergesEach merging b.level b.wants b.len.0 slot mask b.limits)
+  pub form-decided : {f s : List ℕ} {v : Decision} → TakesKeyed slot b f s v
+      → DecidedBy Limits limiting_verdict (λ capacity a. form_clusters slot mask a) b f s v (RunRoom b.len.0 f s) (MergesEach merging b.level b.wants b.len.0 slot mask b.limits)
   form-decided w = keyed-decided form-on w
 
 -- for the proofs of functions
-pub ruleset merging-each = (each_none, each-merge, each-less, each_more, each-done)
+pub ruleset merging_each = (each_none, each-merge, each-less, each_more, each-done)

@@ -1,5 +1,6 @@
 -- The calls of this crate leave the count of pushes, and each origin within it: flags, merging, deletion and writing.
-use mathlib.Core.{Bool.Bool, Option.Option, List.List}
+use mathlib.Core.{Bool.Bool, List.List}
+use Rattle.std.specs.Prelude.{Option}
 use Rattle.std.proofs.Common.{ℕ, zero, suc, ◌≤◌, zero-le}
 use Rattle.records.specs.{DonePlace, InputPlace, Glyphs.Glyph, Glyphs.Info, Glyphs.with_origin, Ranges.infos}
 use Rattle.records.proofs.Apart.{origin-mask, origin-cluster, origin-set, origin-flagged, origin-unless}

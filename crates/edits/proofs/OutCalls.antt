@@ -1,11 +1,15 @@
 -- Merges of a buffer's output: from what the slice workers leave to the account, and what 12 and 14 come to.
+use Rattle.std.specs.Prelude.{None}
+use Rattle.lists.proofs.Decisions.{turned}
+use Rattle.lists.specs.inner.States.{Decision}
+use Rattle.lists.specs.inner.Verdicts.{acts_of, Turned}
 use mathlib.Core.{Path.◌≡◌, Path.refl, Path.sym, Path.ap, Path.◌∙◌, Bool.Bool, Bool.true, Bool.false, Bool.◌&&◌, Bool.◌||◌, Bool.false≢true, List.List}
 use Rattle.std.proofs.Common.{ℕ, ◌-◌, ◌<◌, ◌≤◌, arith, le-ltb, lt-ltb}
 use lib.{Dec.ltb, ListN.length, ListN.drop}
-use Rattle.records.specs.{DonePlace, Contradiction, WrongPhase, OutOfRange, Done, No, Limits, Glyphs.Glyph, Counters.costs, View.glyphs}
+use Rattle.records.specs.{DonePlace, Contradiction, WrongPhase, OutOfRange, Limits, Glyphs.Glyph, Counters.costs, View.glyphs}
 use Rattle.records.proofs.View.{glyphs-same}
-use Rattle.lists.specs.{declared.Buffer.Buffer, declared.Verdict.Verdict}
-use Rattle.lists.specs.{Account.read_level, Account.Account, Account.output_phase, Account.has_output, Account.out_length, Account.with_limits, Account.refused, Account.accepted, Contract.gone_of, Contract.state_of, Contract.account_of, Contract.sound, inner.States.with_limits_of, inner.Verdicts.Leaves, inner.Verdicts.settled, inner.Verdicts.Sided, inner.Verdicts.Decided}
+use Rattle.lists.specs.{declared.Buffer.Buffer}
+use Rattle.lists.specs.{Account.Account, Account.output_phase, Account.has_output, Account.out_length, Account.with_limits, Account.refused, Account.accepted, Contract.gone_of, Contract.state_of, Contract.account_of, Contract.sound, inner.States.with_limits_of, inner.Verdicts.Leaves}
 use Rattle.lists.proofs.{Accounts.output-of, Accounts.out_of, Accounts.level-of, SoundLaws.sound-held}
 use Rattle.lists.proofs.Decisions.{near-limits, decided-unsound, decided-refused, decided-does}
 use Rattle.lists.proofs.Outputs.{gone-output, shown-output}
@@ -14,7 +18,7 @@ use Rattle.lists.proofs.Refusing.{refusing}
 use Rattle.records.proofs.Tests.{tested}
 use Rattle.lists.proofs.Changed.{own-limits, state-own, state-paid}
 use Rattle.edits.specs.declared.OutMerge.{OutMerge}
-use Rattle.edits.specs.{inner.Acts.Acts, inner.Acts.OutMergeful, inner.Holding.holds, inner.Holding.cut, Merging.merge_out, Merging.merged_out, Merging.merge_done, Merging.clusters_merge, Merging.graphemes_merge, inner.Plans.out_plan, inner.Plans.OutWritable, inner.Plans.WrittenOutApart, inner.Plans.WrittenOutWithin}
+use Rattle.edits.specs.{inner.Acts.Acts, inner.Acts.OutMergeful, inner.Holding.holds, inner.Holding.cut, Merging.merge_out, Merging.merged_out, Merging.merge_done, inner.Plans.out_plan, inner.Plans.OutWritable, inner.Plans.WrittenOutApart, inner.Plans.WrittenOutWithin}
 use Rattle.edits.proofs.MergeForms.{OutMergeable}
 use Rattle.edits.specs.inner.MergeActs.{merge_limits, OutMergeRoom, OutMerges, MergesDone}
 use Rattle.edits.proofs.MergeCalls.{account-apart, account-within, acts-paid, acts-kept, in-acts}
@@ -85,12 +89,12 @@ module _ {b : Buffer} {run other : List ℕ} {s e : ℕ} (v : OutMergeful b s e 
         costly lr refl m.behind refl (rw (out_within b (costs (e - s) b.limits) run' other v.output k, own-out-within b run other v.output k, state-paid b (e - s)) (m.account (state_of b)))
 
 -- ---- the act
-module _ {x separate merges : Bool} {idx len out_length s e : ℕ} {f g : List ℕ} where
-  pub outs-few : e - s < 2 → Sided x (OutMerges separate merges idx len out_length s e) f g f g
-  outs-few few = record { first = λ z. record { acts = λ b a v. out_none v merges few }; second = λ z. record { acts = λ b a v. out_none v merges few } }
+module _ {separate merges : Bool} {idx len out_length s e : ℕ} {run other : List ℕ} where
+  pub outs-few : e - s < 2 → OutMerges separate merges idx len out_length s e run other run other
+  outs-few few = record { acts = λ b a v. out_none v merges few }
 
-  pub outs-free : 2 ≤ e - s → merges ≡ false → Sided x (OutMerges separate merges idx len out_length s e) f g f g
-  outs-free two h = record { first = λ z. record { acts = λ b a v. out-leaves v merges two h }; second = λ z. record { acts = λ b a v. out-leaves v merges two h } }
+  pub outs-free : 2 ≤ e - s → merges ≡ false → OutMerges separate merges idx len out_length s e run other run other
+  outs-free two h = record { acts = λ b a v. out-leaves v merges two h }
 
 module _ {separate merges : Bool} {idx len out_length s e : ℕ} {run other run' : List ℕ} {p : OutMerge} (two : 2 ≤ e - s) (h : merges ≡ true) (lr : length run' ≡ length run) where
   pub outs-apart : {other' : List ℕ} → separate ≡ true → length other' ≡ length other → p ≡ out_plan s e (cut out_length (glyphs other)) → WrittenOutApart p idx len (glyphs run) (glyphs other) (glyphs run') (glyphs other') → OutMerges separate merges idx len out_length s e run other run' other'
@@ -104,14 +108,11 @@ module _ {idx len out_length s e : ℕ} {f g : List ℕ} {p : OutMerge} (w : Out
   pub room-second : p ≡ out_plan s e (cut out_length (glyphs g)) → OutWritable p idx len (glyphs f) (glyphs g)
   room-second ep = out-writable (record { order = omega arith; end = w.end; out-fits = omega (arith, w.out-fits, w.same); inside = w.inside; fits = w.fits }) ep
 
-  pub room-first : p ≡ out_plan s e (cut out_length (glyphs f)) → OutWritable p idx len (glyphs g) (glyphs f)
-  room-first ep = out-writable (record { order = omega arith; end = w.end; out-fits = w.out-fits; inside = w.inside; fits = omega (arith, w.fits, w.same) }) ep
-
   pub room-in-first : p ≡ out_plan s e (cut out_length (glyphs f)) → OutWritable p idx len (glyphs f) (glyphs f)
   room-in-first ep = out-writable (record { order = omega arith; end = w.end; out-fits = w.out-fits; inside = w.inside; fits = w.fits }) ep
 
-  pub room-in-second : p ≡ out_plan s e (cut out_length (glyphs g)) → OutWritable p idx len (glyphs g) (glyphs g)
-  room-in-second ep = out-writable (record { order = omega arith; end = w.end; out-fits = omega (arith, w.out-fits, w.same); inside = w.inside; fits = omega (arith, w.fits, w.same) }) ep
+pub out-turned : {idx len out_length s e : ℕ} {f g : List ℕ} → OutMergeRoom idx len out_length s e f g → OutMergeRoom idx len out_length s e g f
+out-turned w = record { order = w.order; end = w.end; out-fits = omega (arith, w.out-fits, w.same); inside = w.inside; fits = omega (arith, w.fits, w.same); same = sym w.same }
 
 -- ---- 12 and 14
 module _ (at : ℕ → Bool) (s e : DonePlace) (a : Account ℕ) where
@@ -127,23 +128,23 @@ module _ (at : ℕ → Bool) (s e : DonePlace) (a : Account ℕ) where
   unfolding merge_done
   done-merges h k = simp (h, k, refusing)
 
-module _ {merges : Bool} {s e : DonePlace} {b : Buffer} {f g : List ℕ} {v : Verdict} where
-  pub done-unsound : sound b f g ≡ false → Leaves b false (No Contradiction) v → MergesDone merges s e b f g v
+module _ {merges : Bool} {s e : DonePlace} {b : Buffer} {f g : List ℕ} {v : Decision} where
+  pub done-unsound : sound b f g ≡ false → Turned Contradiction v → MergesDone merges s e b f g v
   done-unsound h w = record { is = λ at em. decided-unsound h w }
 
   module _ (h : sound b f g ≡ true) where
-    pub done-phase : output_phase b.phase ≡ false → Leaves b false (No WrongPhase) v → MergesDone merges s e b f g v
+    pub done-phase : output_phase b.phase ≡ false → Turned WrongPhase v → MergesDone merges s e b f g v
     done-phase o w = record { is = λ at em. decided-refused h (record { law = λ run other l. done_none at s e _ (output-of b run other ∙ o) }) w }
 
     module _ (o : output_phase b.phase ≡ true) where
-      pub done_order : e.0 < s.0 → Leaves b false (No OutOfRange) v → MergesDone merges s e b f g v
+      pub done_order : e.0 < s.0 → Turned OutOfRange v → MergesDone merges s e b f g v
       done_order k w = record { is = λ at em. decided-refused h (record { law = λ run other l. done-outside at s e _ (output-of b run other ∙ o) (rw (lt-ltb e.0 s.0 k)) }) w }
 
       module _ (k : s.0 ≤ e.0) where
-        pub done_end : b.out_len.0 < e.0 → Leaves b false (No OutOfRange) v → MergesDone merges s e b f g v
+        pub done_end : b.out_len.0 < e.0 → Turned OutOfRange v → MergesDone merges s e b f g v
         done_end q w = record { is = λ at em. decided-refused h (record { law = λ run other l. done-outside at s e _ (output-of b run other ∙ o) (rw (le-ltb e.0 s.0 k, out_of b run other l.held, lt-ltb b.out_len.0 e.0 q)) }) w }
 
-        pub done-goes : e.0 ≤ b.out_len.0 → Leaves (with_limits_of (merge_limits merges (e.0 - s.0) b.limits) b) true Done v → MergesDone merges s e b f g v
+        pub done-goes : e.0 ≤ b.out_len.0 → Leaves (with_limits_of (merge_limits merges (e.0 - s.0) b.limits) b) true None v → MergesDone merges s e b f g v
         done-goes q w = record {
           is = λ at em. decided-does h (record {
             near = near-limits b _;
@@ -155,20 +156,11 @@ module _ {merges : Bool} {s e : DonePlace} {b : Buffer} {f g : List ℕ} {v : Ve
         }
 
 -- at the end of the calls
-module _ {merges : Bool} {s e : DonePlace} {b : Buffer} {f g : List ℕ} {v : Verdict} (w : MergesDone merges s e b f g v) where
-  abbrev DoneDecided : (ℕ → Bool) → Type 0
-  DoneDecided at = Decided (λ capacity a. merge_done at s e a) b f g (settled b v) v.acts (OutMergeRoom b.idx.0 b.len.0 b.out_len.0 s.0 e.0 f g) (OutMerges b.have_separate_output merges b.idx.0 b.len.0 b.out_len.0 s.0 e.0)
-
-  pub done-room : v.acts ≡ true → OutMergeRoom b.idx.0 b.len.0 b.out_len.0 s.0 e.0 f g
+module _ {merges : Bool} {s e : DonePlace} {b : Buffer} {f g : List ℕ} {v : Decision} (w : MergesDone merges s e b f g v) where
+  pub done-room : acts_of v ≡ true → OutMergeRoom b.idx.0 b.len.0 b.out_len.0 s.0 e.0 f g
   done-room t = (w.is (λ level. merges) refl).asked t
 
-  pub done-clusters : merges ≡ clusters_merge (read_level b.level) → DoneDecided (λ level. clusters_merge level)
-  done-clusters em = w.is (λ level. clusters_merge level) em
-
-  pub done-graphemes : merges ≡ graphemes_merge (read_level b.level) → DoneDecided (λ level. graphemes_merge level)
-  done-graphemes em = w.is (λ level. graphemes_merge level) em
-
 -- for the proofs of functions
-pub ruleset out-merge-calls = (soundness, tested, done-unsound, done-phase, done_order, done_end, done-goes, done-room, done-clusters, done-graphemes)
+pub ruleset out_merge_calls = (turned, soundness, tested, done-unsound, done-phase, done_order, done_end, done-goes, done-room)
 
-pub ruleset out-merge-acts = (outs-few, outs-free, outs-apart, outs-within, room-second, room-first, room-in-first, room-in-second)
+pub ruleset out_merge_acting = (outs-few, outs-free, outs-apart, outs-within, room-second, room-in-first)

@@ -1,17 +1,21 @@
 -- The outbuffer flag forms: from what the slice workers leave to the account, and the calls.
-use mathlib.Core.{Path.◌≡◌, Path.refl, Path.sym, Path.ap, Path.◌∙◌, Path.subst, Bool.Bool, Bool.true, Bool.false, Bool.cond, Bool.not, Bool.◌||◌, Bool.false≢true, Option.Option, List.List}
+use Rattle.lists.proofs.Decisions.{turned}
+use Rattle.lists.specs.inner.States.{Decision}
+use Rattle.lists.specs.inner.Verdicts.{Turned}
+use Rattle.std.specs.Prelude.{None}
+use mathlib.Core.{Path.◌≡◌, Path.refl, Path.sym, Path.ap, Path.◌∙◌, Path.subst, Bool.Bool, Bool.true, Bool.false, Bool.cond, Bool.not, Bool.◌||◌, Bool.false≢true, List.List}
+use Rattle.std.specs.Prelude.{Option}
 use Rattle.std.proofs.Common.{ℕ, ◌-◌, ◌≤◌, arith, ltb-false}
 use lib.{Dec.ltb, ListN.length, ListN.drop}
-use Rattle.records.specs.{DonePlace, InputPlace, Contradiction, WrongPhase, OutOfRange, Done, No, Glyphs.Glyph, View.glyphs}
+use Rattle.records.specs.{DonePlace, InputPlace, Contradiction, WrongPhase, OutOfRange, Glyphs.Glyph, View.glyphs}
 use Rattle.records.proofs.View.{glyphs-same}
-use Rattle.lists.specs.{declared.Buffer.Buffer, declared.Verdict.Verdict}
-use Rattle.lists.specs.{Account.read_level, Account.Account, Account.output_phase, Account.has_output, Account.len, Account.idx, Account.out_length, Account.refused, Account.accepted, Contract.account_of, Contract.state_of, Contract.sound, inner.Held.Held, inner.Verdicts.Leaves, inner.Verdicts.settled, inner.Verdicts.Sided, inner.Verdicts.Decided}
+use Rattle.lists.specs.{declared.Buffer.Buffer, declared.Lists.Lists}
+use Rattle.lists.specs.{Account.read_level, Account.Account, Account.output_phase, Account.has_output, Account.len, Account.idx, Account.out_length, Account.refused, Account.accepted, Contract.account_of, Contract.state_of, Contract.sound, inner.Held.Held, inner.Verdicts.Leaves}
 use Rattle.lists.proofs.{Accounts.output-of, Accounts.out_of, Accounts.idx-of, Accounts.wants-of, Accounts.output-clean, SoundLaws.sound-held, Decisions.near_same, Decisions.accepts, Decisions.decided-unsound, Decisions.decided-refused, Decisions.decided-accepted, Decisions.decided-does}
 use Rattle.lists.proofs.SoundLaws.{soundness}
 use Rattle.lists.proofs.Refusing.{refusing}
 use Rattle.records.proofs.Tests.{tested}
-use Rattle.edits.specs.{declared.InputBound.InputBound, declared.DoneBound.DoneBound}
-use Rattle.edits.specs.{inner.Acts.Acts, Flags.input_bound, inner.BoundNumbers.input_number, Flags.done_bound, inner.BoundNumbers.done_number, Flags.place_number, Flags.search_level, Flags.too_far, Flags.start_of, Flags.end_of, Flags.outbuffer_form, Flags.wants_concat, inner.Marks.flagged_part, inner.Marks.sought_out, inner.Marks.flag_out, inner.Marks.OutFlaggable, inner.Marks.OutFlagged, inner.Marks.FlagsOut}
+use Rattle.edits.specs.{inner.Acts.Acts, inner.BoundNumbers.input_number, inner.BoundNumbers.done_number, Flags.place_number, Flags.search_level, Flags.too_far, Flags.start_of, Flags.end_of, Flags.outbuffer_form, Flags.wants_concat, inner.Marks.flagged_part, inner.Marks.sought_out, inner.Marks.flag_out, inner.Acts.lists_of, inner.Marks.OutFlaggable, inner.Marks.OutFlagged, inner.Marks.FlagsOut}
 use Rattle.edits.proofs.MergeForms.{OutRange}
 use Rattle.edits.proofs.BoundLaws.{end-most}
 use Rattle.edits.proofs.FlagCalls.{idle-of, end-of}
@@ -40,29 +44,29 @@ module _ {b : Buffer} {s e : ℕ} {run other : List ℕ} (v : Placed b s e run o
   end_fits : e ≤ length (glyphs run)
   end_fits = omega (arith, v.end, v.held.len-in, v.held.all_in)
 
-  out-flaggable : OutFlaggable b.idx.0 b.out_len.0 s e run other
+  out-flaggable : OutFlaggable (lists_of b) s e run other
   out-flaggable = record { order = v.order; start = v.start; same = glyphs-same run other v.held.same; out-fits = flags-within.out-fits; fits = end_fits }
 
   out-acts : (interiorly : Bool) (bits : ℕ) {run' other' : List ℕ} → length run' ≡ length run → length other' ≡ length other
-      → OutFlagged b.have_separate_output interiorly (search_level (read_level b.level) b.wants) bits b.idx.0 b.out_len.0 s e run other run' other' → Acts (flag_out interiorly bits s (e - b.idx.0)) b run other b run' other'
+      → OutFlagged interiorly (search_level (read_level b.level) b.wants) bits (lists_of b) s e run other run' other' → Acts (flag_out interiorly bits s (e - b.idx.0)) b run other b run' other'
   out-acts interiorly bits {run'} {other'} lr lo w = by_place b.have_separate_output refl
     where
       m : ℕ
-      m = sought_out (search_level (read_level b.level) b.wants) s b.out_len.0 b.idx.0 e (glyphs run) (cond b.have_separate_output (glyphs other) (glyphs run))
+      m = w.m
 
-      m-is : (x : Bool) → b.have_separate_output ≡ x → m ≡ sought_out (search_level (read_level b.level) b.wants) s b.out_len.0 b.idx.0 e (glyphs run) (cond x (glyphs other) (glyphs run))
-      m-is x h = ap (λ (y : Bool). sought_out (search_level (read_level b.level) b.wants) s b.out_len.0 b.idx.0 e (glyphs run) (cond y (glyphs other) (glyphs run))) h
+      m-is : (x : Bool) → b.have_separate_output ≡ x → interiorly ≡ true → m ≡ sought_out (search_level (read_level b.level) b.wants) s b.out_len.0 b.idx.0 e (glyphs run) (cond x (glyphs other) (glyphs run))
+      m-is x h y = w.m-is y ∙ ap (λ (y : Bool). sought_out (search_level (read_level b.level) b.wants) s b.out_len.0 b.idx.0 e (glyphs run) (cond y (glyphs other) (glyphs run))) h
 
       by_place : (x : Bool) → b.have_separate_output ≡ x → Acts (flag_out interiorly bits s (e - b.idx.0)) b run other b run' other'
       by_place true h =
-          let g = w.is.apart h in
+          let g = w.apart h in
           acts-both v.held (flag_out interiorly bits s (e - b.idx.0)) lr lo
           (rw g.0 (part-behind interiorly (search_level (read_level b.level) b.wants) m bits b.len.0 b.idx.0 e (glyphs run) v.start end_fits v.end))
           (rw g.1 (part-behind interiorly (search_level (read_level b.level) b.wants) m bits b.out_len.0 s b.out_len.0 (glyphs other) v.order flags-apart.out-fits (omega arith)))
           (own-out-apart b run' other' v.output h
           ∙ (out-flagged-apart flags-apart interiorly bits (state_of b) (search_level (read_level b.level) b.wants) (state-searching b) (m-is true h) g.0 g.1 ∙ ap (flag_out interiorly bits s (e - b.idx.0)) (sym (own-out-apart b run other v.output h))))
       by_place false h =
-          let g = w.is.within h in
+          let g = w.within h in
           let low : b.out_len.0 ≤ b.idx.0 = v.held.behind v.output h in
           let mid : List (Glyph ℕ) = flagged_part interiorly (search_level (read_level b.level) b.wants) m bits s b.out_len.0 (glyphs run) in
           acts-both v.held (flag_out interiorly bits s (e - b.idx.0)) lr lo
@@ -72,7 +76,7 @@ module _ {b : Buffer} {s e : ℕ} {run other : List ℕ} (v : Placed b s e run o
           (own-out-within b run' other' v.output h
           ∙ (out-flagged-within flags-within low interiorly (search_level (read_level b.level) b.wants) m bits (state_of b) (state-searching b) (m-is false h) g.0 ∙ ap (flag_out interiorly bits s (e - b.idx.0)) (sym (own-out-within b run other v.output h))))
 
-placed : {b : Buffer} {run other : List ℕ} {i j : ℕ} (end : InputBound) → Held b run other → output_phase b.phase ≡ true → j ≡ end_of (input_number end) b.len.0 → (ltb b.out_len.0 i || ltb j b.idx.0) ≡ false → Placed b i j run other
+placed : {b : Buffer} {run other : List ℕ} {i j : ℕ} (end : Option InputPlace) → Held b run other → output_phase b.phase ≡ true → j ≡ end_of (input_number end) b.len.0 → (ltb b.out_len.0 i || ltb j b.idx.0) ≡ false → Placed b i j run other
 placed {b} {run} {other} {i} {j} end v p ee n = record {
   held = v;
   output = p;
@@ -108,56 +112,48 @@ module _ (interiorly wanted : Bool) (bits : ℕ) (s : Option DonePlace) (e : Opt
       out-in-flags o = simp (h, k, ← ei, ← ej, ← ex, ← en, o, refusing)
 
 -- ---- what the calls come to, by their tests
-module _ {concat : Bool} {start : DoneBound} {end : InputBound} {b : Buffer} {f s : List ℕ} {v : Verdict} where
-  pub out-unsound : sound b f s ≡ false → Leaves b false (No Contradiction) v → FlagsOut concat start end b f s v
-  out-unsound h w = record { is = λ interiorly bits. decided-unsound h w }
+module _ {concat : Bool} {start : Option DonePlace} {end : Option InputPlace} {b : Buffer} {f s : List ℕ} {v : Decision} where
+  pub out-unsound : sound b f s ≡ false → Turned Contradiction v → FlagsOut concat start end b f s v
+  out-unsound h w = record { is = λ interiorly bits es' ee'. decided-unsound h w }
 
   module _ (h : sound b f s ≡ true) where
-    pub out_none : output_phase b.phase ≡ false → Leaves b false (No WrongPhase) v → FlagsOut concat start end b f s v
-    out_none k w = record { is = λ interiorly bits. decided-refused h (record { law = λ run other l. out-in-none interiorly _ _ (done_bound start) (input_bound end) _ (output-of b run other ∙ k) }) w }
+    pub out_none : output_phase b.phase ≡ false → Turned WrongPhase v → FlagsOut concat start end b f s v
+    out_none k w = record { is = λ interiorly bits es' ee'. decided-refused h (record { law = λ run other l. out-in-none interiorly _ _ start end _ (output-of b run other ∙ k) }) w }
 
     module _ {far idle : Bool} (p : output_phase b.phase ≡ true) (ef : far ≡ too_far (done_number start) (input_number end)) (ei : idle ≡ (not (not concat || wants_concat b.wants) || far)) where
-      pub out-idle : idle ≡ true → Leaves b false Done v → FlagsOut concat start end b f s v
+      pub out-idle : idle ≡ true → Leaves b false None v → FlagsOut concat start end b f s v
       out-idle k w = record {
-        is = λ interiorly bits. decided-accepted h (accepts Done refl (near_same b) (λ run other l.
-            (out-in-idle interiorly _ _ (done_bound start) (input_bound end) _ (output-of b run other ∙ p) (idle-of b run other concat _ ef ei ∙ k), l.held))) w;
+        is = λ interiorly bits es' ee'. decided-accepted h (accepts None (near_same b) (λ run other l.
+            (out-in-idle interiorly _ _ start end _ (output-of b run other ∙ p) (idle-of b run other concat _ ef ei ∙ k), l.held))) w;
       }
 
       module _ {i j : ℕ} {out : Bool} (n : idle ≡ false) (es : i ≡ start_of (done_number start)) (ee : j ≡ end_of (input_number end) b.len.0) (eo : out ≡ (ltb b.out_len.0 i || ltb j b.idx.0)) where
-        pub out-outside : out ≡ true → Leaves b false (No OutOfRange) v → FlagsOut concat start end b f s v
+        pub out-outside : out ≡ true → Turned OutOfRange v → FlagsOut concat start end b f s v
         out-outside y w = record {
-          is = λ interiorly bits. decided-refused h (record {
+          is = λ interiorly bits es' ee'. decided-refused h (record {
             law = λ run other l.
-                out-in-outside interiorly _ _ (done_bound start) (input_bound end) _ (output-of b run other ∙ p) (idle-of b run other concat _ ef ei ∙ n) es (end-of end l.held (output-clean b.phase p) ee) (sym (idx-of b run other l.held (output-clean b.phase p))) (sym (out_of b run other l.held)) (sym eo ∙ y);
+                out-in-outside interiorly _ _ start end _ (output-of b run other ∙ p) (idle-of b run other concat _ ef ei ∙ n) es (end-of end l.held (output-clean b.phase p) ee) (sym (idx-of b run other l.held (output-clean b.phase p))) (sym (out_of b run other l.held)) (sym eo ∙ y);
           }) w;
         }
 
-        pub out-ahead : out ≡ false → Leaves b true Done v → FlagsOut concat start end b f s v
+        pub out-ahead : out ≡ false → Leaves b true None v → FlagsOut concat start end b f s v
         out-ahead y w = record {
-          is = λ interiorly bits. rw (← es, ← ee) (decided-does h (record {
+          is = λ interiorly bits es' ee'. rw (es' ∙ sym es, ee' ∙ sym ee) (decided-does h (record {
             near = near_same b;
             none = λ c. absurd (false≢true (sym c));
             law = λ run other run' other' l lr lo act.
                 in-acts (out-acts (placed end l.held p ee (sym eo ∙ y)) interiorly (bits b.wants) lr lo act)
-                (out-in-flags interiorly _ _ (done_bound start) (input_bound end) _ (output-of b run other ∙ p) (idle-of b run other concat _ ef ei ∙ n) es (end-of end l.held (output-clean b.phase p) ee) (sym (idx-of b run other l.held (output-clean b.phase p))) (sym (out_of b run other l.held)) (sym eo ∙ y)
+                (out-in-flags interiorly _ _ start end _ (output-of b run other ∙ p) (idle-of b run other concat _ ef ei ∙ n) es (end-of end l.held (output-clean b.phase p) ee) (sym (idx-of b run other l.held (output-clean b.phase p))) (sym (out_of b run other l.held)) (sym eo ∙ y)
                 ∙ ap (λ (x : ℕ). accepted (flag_out interiorly (bits x) i (j - b.idx.0) (account_of b run other))) (wants-of b run other)) refl;
           }) (λ c. out-flaggable (placed end (sound-held b f s h) p ee (sym eo ∙ y))) w);
         }
 
 -- ---- the exported calls
-module _ {concat : Bool} {start : DoneBound} {end : InputBound} {b : Buffer} {f s : List ℕ} {v : Verdict} (d : FlagsOut concat start end b f s v) where
-  pub out-asked : {i j : ℕ} → v.acts ≡ true → i ≡ start_of (done_number start) → j ≡ end_of (input_number end) b.len.0 → OutFlaggable b.idx.0 b.out_len.0 i j f s
-  out-asked t es ee = rw (es, ee) ((d.is true (λ n. 0)).asked t)
+pub out-turned : {at : Lists} {i j : ℕ} {f s : List ℕ} → OutFlaggable at i j f s → OutFlaggable at i j s f
+out-turned w = record { order = w.order; start = w.start; same = sym w.same; out-fits = omega (arith, w.same, w.out-fits); fits = omega (arith, w.same, w.fits) }
 
-module _ {start : DoneBound} {end : InputBound} {b : Buffer} {f s : List ℕ} {v : Verdict} where
-  pub out-break : FlagsOut false start end b f s v → Decided (λ capacity a. outbuffer_form true true 3 (done_bound start) (input_bound end) a) b f s (settled b v) v.acts (OutFlaggable b.idx.0 b.out_len.0 (start_of (done_number start)) (end_of (input_number end) b.len.0) f s) (OutFlagged b.have_separate_output true (search_level (read_level b.level) b.wants) 3 b.idx.0 b.out_len.0 (start_of (done_number start)) (end_of (input_number end) b.len.0))
-  out-break d = d.is true (λ n. 3)
-
-  pub out-concat : FlagsOut true start end b f s v → Decided (λ capacity a. outbuffer_form false (wants_concat a.state.wants) 2 (done_bound start) (input_bound end) a) b f s (settled b v) v.acts (OutFlaggable b.idx.0 b.out_len.0 (start_of (done_number start)) (end_of (input_number end) b.len.0) f s) (OutFlagged b.have_separate_output false (search_level (read_level b.level) b.wants) 2 b.idx.0 b.out_len.0 (start_of (done_number start)) (end_of (input_number end) b.len.0))
-  out-concat d = d.is false (λ n. 2)
-
-pub out_at : {y separate interiorly : Bool} {level x idx out_length i i' j j' : ℕ} {f s f' s' : List ℕ} → Sided y (OutFlagged separate interiorly level x idx out_length i j) f s f' s' → i ≡ i' → j ≡ j' → Sided y (OutFlagged separate interiorly level x idx out_length i' j') f s f' s'
-out_at w ei ej = rw (← ei, ← ej) w
+pub out-lies : {interiorly : Bool} {level bits i j : ℕ} {run other run' other' : List ℕ} {at at' : Lists} → at ≡ at' → OutFlagged interiorly level bits at i j run other run' other' → OutFlagged interiorly level bits at' i j run other run' other'
+out-lies {interiorly} {level} {bits} {i} {j} {run} {other} {run'} {other'} e w = subst (λ (x : Lists). OutFlagged interiorly level bits x i j run other run' other') e w
 
 -- for the proofs of functions
-pub ruleset out-flag-calls = (soundness, tested, out-unsound, out_none, out-idle, out-outside, out-ahead, out-asked, out-break, out-concat, out_at)
+pub ruleset out_flag_calls = (turned, soundness, tested, out-unsound, out_none, out-idle, out-outside, out-ahead)

@@ -1,5 +1,5 @@
 -- The outbuffer forms of flags, to the account.
-use mathlib.Core.{Path.◌≡◌, Path.sym, Path.◌∙◌, Bool.Bool, Bool.true, Bool.false, List.List}
+use mathlib.Core.{Path.◌≡◌, Path.refl, Path.sym, Path.◌∙◌, Bool.Bool, Bool.true, Bool.false, List.List}
 use Rattle.std.proofs.Common.{ℕ, ◌-◌, ◌≤◌, length, take, drop, zero-le, le_refl, arith, length-take-le}
 use native.Mathlib.Nat.{sub-zero}
 use lib.Seq.{slice}
@@ -48,7 +48,7 @@ module _ {run out : List (Glyph ℕ)} {idx len out_length s e : ℕ} (v : OutRan
   inside = omega (arith, v.start, v.end)
 
   -- what is held after the form, from the part of the run that is input and from the output
-  out-held : (interiorly : Bool) (level m : ℕ) (run' out' : List (Glyph ℕ)) → searching k ≡ level → m ≡ sought_out level s out_length idx e run out
+  out-held : (interiorly : Bool) (level m : ℕ) (run' out' : List (Glyph ℕ)) → searching k ≡ level → (interiorly ≡ true → m ≡ sought_out level s out_length idx e run out)
       → slice idx len run' ≡ flagged_part interiorly level m bits 0 (e - idx) (slice idx len run) → take out_length out' ≡ flagged_part interiorly level m bits s out_length (take out_length out)
       → holds run' out' idx idx len out_length k ≡ flag_out interiorly bits s (e - idx) (holds run out idx idx len out_length k)
   unfolding flagged_part flag_out flag_out_interior flag_out_all flag_all sought_out out_length_of
@@ -62,8 +62,8 @@ module _ {run out : List (Glyph ℕ)} {idx len out_length s e : ℕ} (v : OutRan
       let r-is : take (e - idx) (drop idx (cut len run)) ≡ slice idx e (clusters run) = sym (drop-take idx e (cut len run)) ∙ slice-take idx e len (clusters run) v.end in
       let lv : searching a.state ≡ level = searching-held run out idx idx len out_length k ∙ el in
       holds-with run out idx idx len out_length k (le_refl idx) inside v.fits run' out' _ _
-      (er ∙ rw (cs-is, ds-is, in_is, lv, r-is, em))
-      (eo ∙ rw (cs-is, ds-is, d-is, lv, n-is, r-is, em))
+      (er ∙ rw (cs-is, ds-is, in_is, lv, r-is, em refl))
+      (eo ∙ rw (cs-is, ds-is, d-is, lv, n-is, r-is, em refl))
   out-held false level m run' out' el em er eo =
       let a : Account ℕ = holds run out idx idx len out_length k in
       let in_is : input a ≡ slice idx len run = input-is run out idx idx len out_length k (le_refl idx) inside v.fits in
@@ -80,7 +80,7 @@ output-part interiorly level m bits n s out a f = rw (sub-zero s, sub-zero n) at
 
 -- THE LAWS of the outbuffer forms: with the output apart, of any two lists; and in the run, where first the output is written, then the input
 module _ {run out : List (Glyph ℕ)} {idx len out_length s e : ℕ} (v : OutRange run out idx len out_length s e) (interiorly : Bool) (bits : ℕ) (k : State) where
-  pub out-flagged-apart : (level : ℕ) {m : ℕ} {run' out' : List (Glyph ℕ)} → searching k ≡ level → m ≡ sought_out level s out_length idx e run out
+  pub out-flagged-apart : (level : ℕ) {m : ℕ} {run' out' : List (Glyph ℕ)} → searching k ≡ level → (interiorly ≡ true → m ≡ sought_out level s out_length idx e run out)
       → run' ≡ flagged_part interiorly level m bits idx e run → out' ≡ flagged_part interiorly level m bits s out_length out
       → holds run' out' idx idx len out_length k ≡ flag_out interiorly bits s (e - idx) (holds run out idx idx len out_length k)
   out-flagged-apart level {m} {run'} {out'} el em er eo =
@@ -95,7 +95,7 @@ module _ {run : List (Glyph ℕ)} {idx len out_length s e : ℕ} (v : OutRange r
   pub middle-fits : len ≤ length middle
   middle-fits = rw (part_length interiorly level m bits s out_length run v.order) v.fits
 
-  pub out-flagged-within : (k : State) {run' : List (Glyph ℕ)} → searching k ≡ level → m ≡ sought_out level s out_length idx e run run → run' ≡ flagged_part interiorly level m bits idx e middle
+  pub out-flagged-within : (k : State) {run' : List (Glyph ℕ)} → searching k ≡ level → (interiorly ≡ true → m ≡ sought_out level s out_length idx e run run) → run' ≡ flagged_part interiorly level m bits idx e middle
       → holds run' run' idx idx len out_length k ≡ flag_out interiorly bits s (e - idx) (holds run run idx idx len out_length k)
   out-flagged-within k {run'} el em er =
       let kept : slice idx len middle ≡ slice idx len run = slice-behind idx len run middle (part-behind interiorly level m bits idx s out_length run v.order v.out-fits low) in

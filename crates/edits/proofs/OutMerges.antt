@@ -158,4 +158,4 @@ pub out-writable : {run out : List (Glyph ℕ)} {idx len out_length s e : ℕ} {
 out-writable {p = p} v ep = let o = out-order v p ep in record { order = o.0; end = omega (arith, o.1, v.out-fits); inside = v.inside; fits = v.fits }
 
 -- for the proofs of functions
-pub ruleset out-merging = (out-planned, head-some, head-none, written-out-apart, written-out-within, head-start, head-stop, out-room)
+pub ruleset out_merging = (out-planned, head-some, head-none, written-out-apart, written-out-within, head-start, head-stop, out-room)

@@ -1,15 +1,19 @@
 -- `place`: four numbers of one position, on the account.
+use Rattle.lists.proofs.Decisions.{turned}
+use Rattle.lists.specs.inner.States.{Decision}
+use Rattle.lists.specs.inner.Verdicts.{Turned}
+use Rattle.std.specs.Prelude.{Ok, None}
 use mathlib.Core.{Path.◌≡◌, Path.refl, Path.sym, Path.ap, Path.◌∙◌, Bool.Bool, Bool.true, Bool.false, Bool.◌&&◌, Bool.false≢true, List.List}
 use Rattle.std.proofs.Common.{ℕ, suc, ◌<◌, ◌≤◌, zero-le, arith, le-leb}
 use borrow.Author.Tests.{lt-leb}
 use lib.{Dec.leb, ListN.length, ListN.take, ListN.drop, ListN.get_or, ListN.set, Seq.drop-set-lt}
-use Rattle.records.specs.{Phase, Plain, Output, Positions, Spoiled, InputPlace, Position, Contradiction, WrongPhase, OutOfRange, Done, No, Glyphs.Glyph, Glyphs.Info, Glyphs.zero_position, Ranges.edit, View.glyphs, View.positions_in, View.paired, View.words_from}
+use Rattle.records.specs.{Phase, Plain, Output, Positions, Spoiled, InputPlace, Position, Contradiction, WrongPhase, OutOfRange, Glyphs.Glyph, Glyphs.Info, Glyphs.zero_position, Ranges.edit, View.glyphs, View.positions_in, View.paired, View.words_from}
 use Rattle.records.proofs.View.{glyphs-same, positions-glyphs, length-paired, beyond-positions}
-use Rattle.lists.specs.{declared.Buffer.Buffer, declared.Verdict.Verdict}
+use Rattle.lists.specs.{declared.Buffer.Buffer}
 use Rattle.lists.specs.{Account.Account, Account.State, Account.output_phase, Account.positions_phase, Account.spoiled_phase, Account.has_positions, Account.input, Account.len, Account.with_input, Account.refused, Account.accepted, Contract.gone_of, Contract.state_of, Contract.account_of, Contract.sound, inner.Held.Held, inner.States.reply, inner.Verdicts.Leaves}
 use Rattle.lists.proofs.Sides.{MeetsIn}
 use Rattle.lists.proofs.{Accounts.len_of, SoundLaws.sound-held, SoundLaws.held-turned, Accounts.positions-of, Calls.in-accepted, Decisions.near_same, Decisions.decided-unsound, Decisions.decided-refused, Decisions.decided-does}
-use Rattle.edits.specs.{inner.Fills.repositioned, inner.Fills.Placeable, inner.Fills.Placed, inner.Fills.Places, inner.Holding.holds, WholeRun.set_position, WholeRun.place}
+use Rattle.edits.specs.{inner.Fills.repositioned, inner.Fills.Placeable, inner.Fills.Places, inner.Holding.holds, WholeRun.set_position, WholeRun.place}
 use Rattle.lists.proofs.Outputs.{gone-without}
 use Rattle.lists.proofs.SoundLaws.{soundness}
 use Rattle.lists.proofs.Refusing.{refusing}
@@ -85,7 +89,7 @@ module _ (i : InputPlace) (xa ya xo yo : ℕ) where
     place-beyond k = place-outside _ (positions-of b run other ∙ h) (ap (λ (n : ℕ). leb n i.0) (length-is v h) ∙ le-leb b.len.0 i.0 k)
 
     place-done : {other' : List ℕ} → i.0 < b.len.0 → length other' ≡ length other → positions_in other' ≡ set (positions_in other) i.0 (repositioned xa ya xo yo (get_or (positions_in other) i.0 zero_position))
-        → MeetsIn (λ capacity a. place i xa ya xo yo a) b run other (reply b Done) run other'
+        → MeetsIn (λ capacity a. place i xa ya xo yo a) b run other (reply b (Ok None)) run other'
     place-done {other'} k lo e =
         let n : ℕ = b.limits.allocated in
         let gs : List (Glyph ℕ) = glyphs run in
@@ -106,19 +110,19 @@ module _ (i : InputPlace) (xa ya xo yo : ℕ) where
         refl
 
 -- ---- its verdict
-module _ {i : InputPlace} {b : Buffer} {f s : List ℕ} {v : Verdict} where
-  pub place-unsound : sound b f s ≡ false → Leaves b false (No Contradiction) v → Places i b f s v
+module _ {i : InputPlace} {b : Buffer} {f s : List ℕ} {v : Decision} where
+  pub place-unsound : sound b f s ≡ false → Turned Contradiction v → Places i b f s v
   place-unsound h w = record { is = λ xa ya xo yo. decided-unsound h w }
 
   module _ (h : sound b f s ≡ true) where
-    pub place-unplaced : positions_phase b.phase ≡ false → Leaves b false (No WrongPhase) v → Places i b f s v
+    pub place-unplaced : positions_phase b.phase ≡ false → Turned WrongPhase v → Places i b f s v
     place-unplaced p w = record { is = λ xa ya xo yo. decided-refused h (record { law = λ run other l. place_none i xa ya xo yo _ (positions-of b run other ∙ p) }) w }
 
     module _ (p : positions_phase b.phase ≡ true) where
-      pub place-behind : b.len.0 ≤ i.0 → Leaves b false (No OutOfRange) v → Places i b f s v
+      pub place-behind : b.len.0 ≤ i.0 → Turned OutOfRange v → Places i b f s v
       place-behind k w = record { is = λ xa ya xo yo. decided-refused h (record { law = λ run other l. place-beyond i xa ya xo yo l.held p k }) w }
 
-      pub place-ahead : i.0 < b.len.0 → Leaves b true Done v → Places i b f s v
+      pub place-ahead : i.0 < b.len.0 → Leaves b true None v → Places i b f s v
       place-ahead k w = record {
         is = λ xa ya xo yo. decided-does h (record {
           near = near_same b;
@@ -127,11 +131,8 @@ module _ {i : InputPlace} {b : Buffer} {f s : List ℕ} {v : Verdict} where
         }) (λ c. let u = sound-held b f s h in record { in-first = placed-room (held-turned b f s u) p i.0 k; in-second = placed-room u p i.0 k }) w;
       }
 
-  pub place-asked : Places i b f s v → v.acts ≡ true → Placeable i.0 f s
-  place-asked w t = (w.is 0 0 0 0).asked t
-
-pub was-placed : {i xa ya xo yo : ℕ} {run other other' : List ℕ} → positions_in other' ≡ set (positions_in other) i (repositioned xa ya xo yo (get_or (positions_in other) i zero_position)) → Placed i xa ya xo yo run other run other'
-was-placed e = record { run_is = refl; other-is = e }
+pub placeable-turned : {n : ℕ} {f s : List ℕ} → Placeable n f s → Placeable n s f
+placeable-turned w = record { in-first = w.in-second; in-second = w.in-first }
 
 -- for the proofs of functions
-pub ruleset place-calls = (soundness, tested, put-placed, place-unsound, place-unplaced, place-behind, place-ahead, place-asked, was-placed)
+pub ruleset place_calls = (turned, soundness, tested, put-placed, place-unsound, place-unplaced, place-behind, place-ahead)

@@ -1,10 +1,12 @@
 -- The flags of neighbours of one cluster: the loop over the groups.
+use Rattle.lists.specs.inner.States.{Decision}
+use Rattle.lists.specs.inner.Verdicts.{acts_of}
 use mathlib.Core.{Path.◌≡◌, Path.refl, Path.ap, Path.ap₂, Path.sym, Path.◌∙◌, Bool.false, List.List, List.[], List.◌∷◌, List.map}
 use Rattle.std.proofs.Common.{ℕ, suc, ◌+◌, ◌-◌, ◌%◌, ◌<◌, ◌≤◌, zero-le, le_refl, arith}
 use lib.{Bits.bit_or, Bits.or_zero_r, ListN.take, ListN.drop, ListN.length, ListN.get_or, ListN.set, Seq.slice, Seq.slice_empty, Seq.slice-cons}
 use Rattle.records.specs.{Phase, Plain, Glyphs.Glyph, Glyphs.Info, Glyphs.change, Glyphs.with_mask, Ranges.infos, Ranges.clusters, Ranges.edit, Ranges.heads, Ranges.is, View.glyphs, inner.Stores.zero_glyph}
 use Rattle.records.proofs.View.{glyphs-same}
-use Rattle.lists.specs.{declared.Buffer.Buffer, declared.Verdict.Verdict}
+use Rattle.lists.specs.{declared.Buffer.Buffer}
 use Rattle.lists.specs.{Account.spoiled_phase, Account.with_rest, inner.Masks.joined_low, Account.accepted, Contract.shown, Contract.account_of, inner.Verdicts.Decided}
 use Rattle.lists.specs.inner.Verdicts as verdicts
 use Rattle.lists.proofs.{Accounts.wants-of, Editing.edit-up, Editing.edit-empty, Infos.length-words, Infos.word_of, Infos.map-take, Infos.map-drop, Infos.words-edit}
@@ -13,7 +15,8 @@ use Rattle.edits.specs.{Groups.group_sizes, Groups.same_cluster, Groups.joined, 
 use Rattle.records.proofs.Pairs.{mask-alone}
 use Rattle.records.proofs.Apart.{mask-apart, mask-cluster}
 use Rattle.records.proofs.Edited.{edit-take, edit-drop-behind}
-use Rattle.edits.proofs.{Holding.slice-take, Places.shown-edit, WholeInputs.whole-acts, MergeCalls.in-acts, WholeInputs.not-not-whole, WholeCalls.OnRun, WholeCalls.takes-decided, GroupLaws.Group, GroupLaws.no-group, GroupLaws.cluster-group, GroupLaws.clusters-same, GroupLaws.seen-words}
+use Rattle.edits.specs.inner.Reversals.{Group}
+use Rattle.edits.proofs.{Holding.slice-take, Places.shown-edit, WholeInputs.whole-acts, MergeCalls.in-acts, WholeInputs.not-not-whole, WholeCalls.OnRun, WholeCalls.takes-decided, GroupLaws.no-group, GroupLaws.cluster-group, GroupLaws.clusters-same, GroupLaws.seen-words}
 
 -- ---- masks
 abbrev pub mask_of : Info → ℕ
@@ -159,7 +162,7 @@ on-run-propagate b = record {
       rw act.other-is (in-acts (whole-acts w lr refl d.behind refl (λ l. propagated b.wants (group_sizes same_cluster (infos l)) 0 l) (d.is b.phase other w.clean)) (propagate-accepts w) refl);
 }
 
-pub propagate-decided : {b : Buffer} {f s : List ℕ} {v : Verdict} → TakesWhole b f s v → Decided (λ capacity a. propagate_flags a) b f s (verdicts.settled b v) v.acts (RunOf b.phase b.len.0 f s) (PropagatesRun b.wants b.len.0)
+pub propagate-decided : {b : Buffer} {f s : List ℕ} {v : Decision} → TakesWhole b f s v → Decided (λ capacity a. propagate_flags a) b f s (verdicts.settled b v) (acts_of v) (RunOf b.phase b.len.0 f s) (PropagatesRun b.wants b.len.0)
 propagate-decided {b} w = takes-decided (on-run-propagate b) w
 
 -- for the proofs of functions

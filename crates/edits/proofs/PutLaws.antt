@@ -7,73 +7,89 @@ use Rattle.records.specs.declared.GlyphInfo.{GlyphInfo}
 use Rattle.records.proofs.View.{glyphs-same, beyond-glyphs, seen-number}
 use Rattle.records.proofs.Edited.{copies-one}
 use Rattle.lists.proofs.Changed.{changed, output-apart, held-places, held-apart}
-use Rattle.lists.specs.declared.Buffer.{Buffer}
+use Rattle.lists.specs.{declared.Buffer.Buffer, declared.Lists.Lists}
 use Rattle.lists.specs.{Account.Account, Account.output_phase, Account.with_gone, inner.Copied.copied, Cursor.dropping, Contract.account_of, inner.Held.Held, inner.Verdicts.Sided}
 use Rattle.lists.proofs.{Copying.copied_none, Copying.copied_more, Copying.take-copied, Copying.drop-copied, Copying.range_same, Outputs.output, Outputs.output-cong, Outputs.output-places, Outputs.output-account}
-use Rattle.edits.specs.{inner.Acts.Acts, inner.MergeActs.Merges, inner.Puts.overtakes, inner.Puts.Puttable, inner.Puts.Wrote, inner.Puts.Replaceable, inner.Puts.Replaces, inner.Puts.model_at, inner.Puts.Modelled, inner.Puts.Outputs, Writing.written}
+use Rattle.edits.specs.{inner.Acts.Acts, inner.Acts.lists_of, inner.MergeActs.Merges, inner.Puts.overtakes, inner.Puts.Puttable, inner.Puts.Brought, inner.Puts.Wrote, inner.Puts.Outputable, inner.Puts.Replaceable, inner.Puts.Replaces, inner.Puts.model_at, inner.Puts.Modelled, inner.Puts.Outputs, Writing.written}
 use Rattle.edits.proofs.WriteForms.{Roomy, put_buffer}
 
--- ---- where the glyphs went
-module _ {separate apart : Bool} {to n : ℕ} {new : List (Glyph ℕ)} {run other : List ℕ} where
-  pub wrote-apart : {other' : List ℕ} → separate ≡ true → glyphs other' ≡ copied (glyphs other) to new 0 n → Wrote separate apart to new n run other run other'
-  wrote-apart h e = record { run_is = rw h; other-is = rw h e }
+-- ---- where the output lies
+module _ {at : Lists} {apart : Bool} {run other : List ℕ} where
+  pub brought-separate : at.separate ≡ true → Brought at apart run other other true
+  brought-separate h = record { lies = rw h; other-is = rw h }
 
-  pub wrote-moved : {mid : List (Glyph ℕ)} {other' : List ℕ} → separate ≡ false → apart ≡ true → mid ≡ copied (glyphs other) 0 (glyphs run) 0 to → glyphs other' ≡ copied mid to new 0 n → Wrote separate apart to new n run other run other'
-  wrote-moved h k e q = record { run_is = rw (h, k); other-is = rw (h, k) (q ∙ ap (λ (l : List (Glyph ℕ)). copied l to new 0 n) e) }
+  pub brought-moved : {other' : List ℕ} → at.separate ≡ false → apart ≡ true → glyphs other' ≡ copied (glyphs other) 0 (glyphs run) 0 at.out_len → Brought at apart run other other' apart
+  brought-moved h k e = record { lies = rw h; other-is = rw (h, k) e }
 
-  pub wrote-within : {run' : List ℕ} → separate ≡ false → apart ≡ false → glyphs run' ≡ copied (glyphs run) to new 0 n → Wrote separate apart to new n run other run' other
-  wrote-within h k e = record { run_is = rw (h, k) e; other-is = rw (h, k) }
+  pub brought-none : {other' : List ℕ} → at.separate ≡ false → apart ≡ false → other' ≡ other → Brought at apart run other other' apart
+  brought-none h k e = record { lies = rw h; other-is = rw (h, k, e) }
 
-pub moved-room : {to n : ℕ} {run other : List ℕ} (mid : List ℕ) → Puttable to n run other → length mid ≡ length other → to + n ≤ length (glyphs mid)
-moved-room {to} {n} {run} {other} mid v e = let same : length (glyphs mid) ≡ length (glyphs other) = glyphs-same mid other e in omega (arith, v.fits, v.same)
+-- n of the glyphs `new` stand behind the output, in the slice that it lies in
+pub record Grown (to : ℕ) (new : List (Glyph ℕ)) (n : ℕ) (run other run' other' : List ℕ) : Type 0 where
+  pub run_is : glyphs run' ≡ copied (glyphs run) to new 0 n
+  pub other-is : other' ≡ other
 
-pub moved-one : {to : ℕ} {run other : List ℕ} (mid : List ℕ) → Puttable to 1 run other → length mid ≡ length other → to < length (glyphs mid)
-moved-one mid v e = let room = moved-room mid v e in omega arith
+pub wrote-by : {at : Lists} {apart x : Bool} {new : List (Glyph ℕ)} {n : ℕ} {run other other₁ run' other' : List ℕ} → Brought at apart run other other₁ x → Sided x (Grown at.out_len new n) run other₁ run' other' → Wrote at apart new n run other run' other'
+wrote-by {at} {apart} {x} {new} {n} {run} {other} {other₁} {run'} {other'} w p = by at.separate apart refl refl
+  where
+    in-other : (at.separate || apart) ≡ true → Grown at.out_len new n other₁ run other' run'
+    in-other h = p.second (w.lies ∙ h)
+
+    in-run : (at.separate || apart) ≡ false → Grown at.out_len new n run other₁ run' other'
+    in-run h = p.first (w.lies ∙ h)
+
+    grown-other : {l : List (Glyph ℕ)} → (at.separate || apart) ≡ true → glyphs other₁ ≡ l → glyphs other' ≡ copied l at.out_len new 0 n
+    grown-other h e = (in-other h).run_is ∙ ap (λ (l : List (Glyph ℕ)). copied l at.out_len new 0 n) e
+
+    by : (s t : Bool) → at.separate ≡ s → apart ≡ t → Wrote at apart new n run other run' other'
+    by true t h k =
+        let y : (at.separate || apart) ≡ true = ap (λ (z : Bool). z || apart) h in
+        record { run_is = rw h (ap glyphs (in-other y).other-is); other-is = rw h (grown-other y (w.other-is ∙ rw h)) }
+    by false true h k =
+        let y : (at.separate || apart) ≡ true = ap (λ (z : Bool). z || apart) h ∙ k in
+        record { run_is = rw (h, k) (ap glyphs (in-other y).other-is); other-is = rw (h, k) (grown-other y (w.other-is ∙ rw (h, k))) }
+    by false false h k =
+        let y : (at.separate || apart) ≡ false = ap (λ (z : Bool). z || apart) h ∙ k in
+        record { run_is = rw (h, k) (in-run y).run_is; other-is = rw (h, k) (ap glyphs (in-run y).other-is ∙ (w.other-is ∙ rw (h, k))) }
+
+pub puttable-turned : {to n : ℕ} {f s : List ℕ} → Puttable to n f s → Puttable to n s f
+puttable-turned w = record { same = sym w.same; fits = omega (arith, w.same, w.fits) }
 
 -- one glyph that is put is a copy of one
-put-copied : (d : List (Glyph ℕ)) (x : Glyph ℕ) (to : ℕ) {l : List (Glyph ℕ)} → to + 1 ≤ length d → l ≡ set d to x → l ≡ copied d to (x ∷ []) 0 1
-put-copied d x to h e =
+pub put_copied : (d : List (Glyph ℕ)) (x : Glyph ℕ) (to : ℕ) {l : List (Glyph ℕ)} → to + 1 ≤ length d → l ≡ set d to x → l ≡ copied d to (x ∷ []) 0 1
+put_copied d x to h e =
     let here : to + 0 ≡ to = omega arith in
     e
     ∙ (ap (λ (k : ℕ). set d k x) (sym here)
     ∙ (ap (λ (y : List (Glyph ℕ)). set y (to + 0) x) (copied_none d (x ∷ []) to 0) ∙ copied_more zero_glyph d (x ∷ []) to 0 0 (omega arith) (omega arith)))
 
-module _ {separate apart : Bool} {to : ℕ} {u : Glyph ℕ} {run other : List ℕ} (v : Puttable to 1 run other) where
-  pub one_apart : {other' : List ℕ} → separate ≡ true → glyphs other' ≡ set (glyphs other) to u → Wrote separate apart to (u ∷ []) 1 run other run other'
-  one_apart h e = wrote-apart h (put-copied (glyphs other) u to (omega (arith, v.fits, v.same)) e)
-
-  pub one-moved : {mid : List (Glyph ℕ)} {other' : List ℕ} → separate ≡ false → apart ≡ true → mid ≡ copied (glyphs other) 0 (glyphs run) 0 to → glyphs other' ≡ set mid to u → Wrote separate apart to (u ∷ []) 1 run other run other'
-  one-moved {mid} h k e q =
-      let long : length mid ≡ length (glyphs other) = ap length e ∙ length-paste (glyphs other) 0 (glyphs run) to (omega (arith, v.fits, v.same)) (omega (arith, v.fits)) in
-      wrote-moved h k e (put-copied mid u to (omega (arith, v.fits, v.same)) q)
-
-  pub one-within : {run' : List ℕ} → separate ≡ false → apart ≡ false → glyphs run' ≡ set (glyphs run) to u → Wrote separate apart to (u ∷ []) 1 run other run' other
-  one-within h k e = wrote-within h k (put-copied (glyphs run) u to v.fits e)
-
 -- ---- which glyph is copied
-module _ (separate : Bool) (i l o : ℕ) (run other : List ℕ) where
-  pub model-first : i < l → model_at separate i l o run other ≡ get_or (glyphs run) i zero_glyph
+module _ (at : Lists) (run other : List ℕ) where
+  pub model-first : at.idx < at.len → model_at at run other ≡ get_or (glyphs run) at.idx zero_glyph
   unfolding model_at
-  model-first h = rw (lt-ltb i l h)
+  model-first h = rw (lt-ltb at.idx at.len h)
 
-  pub model-last : l ≤ i → model_at separate i l o run other ≡ get_or (cond separate (glyphs other) (glyphs run)) (o - 1) zero_glyph
+  pub model-last : at.len ≤ at.idx → model_at at run other ≡ get_or (cond at.separate (glyphs other) (glyphs run)) (at.out_len - 1) zero_glyph
   unfolding model_at
-  model-last h = rw (le-ltb i l h)
+  model-last h = rw (le-ltb at.idx at.len h)
 
-module _ {u : Glyph ℕ} {separate : Bool} {i l o : ℕ} {run other : List ℕ} where
-  pub reads_first : i < l → u ≡ get_or (glyphs run) i zero_glyph → Modelled separate i l o run other u
-  reads_first h e = record { is = e ∙ sym (model-first separate i l o run other h) }
+module _ {u : Glyph ℕ} {at : Lists} {run other : List ℕ} where
+  pub reads_first : at.idx < at.len → u ≡ get_or (glyphs run) at.idx zero_glyph → Modelled at run other u
+  reads_first h e = record { is = e ∙ sym (model-first at run other h) }
 
-  pub reads-last : l ≤ i → u ≡ get_or (cond separate (glyphs other) (glyphs run)) (o - 1) zero_glyph → Modelled separate i l o run other u
-  reads-last h e = record { is = e ∙ sym (model-last separate i l o run other h) }
+  pub reads-last : at.len ≤ at.idx → u ≡ get_or (cond at.separate (glyphs other) (glyphs run)) (at.out_len - 1) zero_glyph → Modelled at run other u
+  reads-last h e = record { is = e ∙ sym (model-last at run other h) }
 
-  pub outputs-of : {apart own : Bool} {r : Glyph ℕ} {x number : ℕ} {run' other' : List ℕ} → Modelled separate i l o run other u → x ≡ cond own u.glyph number → r ≡ record { glyph = x; info = u.info } → Wrote separate apart o (r ∷ []) 1 run other run' other'
-      → Outputs separate apart own i l o number run other run' other'
+  pub outputs-of : {apart own : Bool} {r : Glyph ℕ} {x number : ℕ} {run' other' : List ℕ} → Modelled at run other u → x ≡ cond own u.glyph number → r ≡ record { glyph = x; info = u.info } → Wrote at apart (r ∷ []) 1 run other run' other'
+      → Outputs at apart own number run other run' other'
   outputs-of {apart} {own} {r} {x} {number} {run'} {other'} eg ex er w =
-      let m : Glyph ℕ = model_at separate i l o run other in
+      let m : Glyph ℕ = model_at at run other in
       let en : x ≡ cond own m.glyph number = ex ∙ ap (λ (t : Glyph ℕ). cond own t.glyph number) eg.is in
       let e : r ≡ record { glyph = cond own m.glyph number; info = m.info } = er ∙ (λ k. record { glyph = en k; info = (eg.is k).info }) in
-      record { is = rw copies-one (subst (λ (y : Glyph ℕ). Wrote separate apart o (y ∷ []) 1 run other run' other') e w) }
+      record { is = rw copies-one (subst (λ (y : Glyph ℕ). Wrote at apart (y ∷ []) 1 run other run' other') e w) }
+
+pub outputable-turned : {at : Lists} {f s : List ℕ} → Outputable at f s → Outputable at s f
+outputable-turned w = record { same = sym w.same; len-in = omega (arith, w.same, w.len-in); fits = omega (arith, w.same, w.fits); some = w.some }
 
 pub own-number : {own : Bool} (g : GlyphInfo) (number : ℕ) → own ≡ true → g.glyph ≡ cond own (seen g).glyph number
 own-number g number h = rw h (sym (seen-number g))
@@ -165,7 +181,7 @@ module _ {b : Buffer} {m n : ℕ} {run other : List ℕ} (v : Roomy b m n run ot
       by true = simp changed
       by false = simp changed
 
-  module _ {new : List (Glyph ℕ)} {run' other' : List ℕ} (many : n ≤ length new) (w : Wrote b.have_separate_output x b.out_len.0 new n run other run' other') where
+  module _ {new : List (Glyph ℕ)} {run' other' : List ℕ} (many : n ≤ length new) (w : Wrote (lists_of b) x new n run other run' other') where
     room-run : b.out_len.0 + n ≤ length (glyphs run)
     room-run = omega (arith, v.in_size, v.held.all_in)
 
@@ -198,16 +214,19 @@ module _ {b : Buffer} {m n : ℕ} {run other : List ℕ} (v : Roomy b m n run ot
         }
 
 -- ---- the merge of inputs before it
-module _ {i l o m n x : ℕ} {run other : List ℕ} (v : Replaceable i l o m n x run other) where
-  pub replace-puttable : (run₁ other₁ : List ℕ) → length run₁ ≡ length run → length other₁ ≡ length other → Puttable o n run₁ other₁
+module _ {at : Lists} {m n x : ℕ} {run other : List ℕ} (v : Replaceable at m n x run other) where
+  pub replaceable-turned : Replaceable at m n x other run
+  replaceable-turned = record { same = sym v.same; len-in = omega (arith, v.same, v.len-in); fits = omega (arith, v.same, v.fits); some = v.some; in_len = v.in_len; enough = v.enough }
+
+  pub replace-puttable : (run₁ other₁ : List ℕ) → length run₁ ≡ length run → length other₁ ≡ length other → Puttable at.out_len n run₁ other₁
   replace-puttable run₁ other₁ lr lo =
       let er : length (glyphs run₁) ≡ length (glyphs run) = glyphs-same run₁ run lr in
       let eo : length (glyphs other₁) ≡ length (glyphs other) = glyphs-same other₁ other lo in
       record { same = er ∙ (v.same ∙ sym eo); fits = omega (arith, v.fits) }
 
-pub replaces-of : {separate apart merges : Bool} {level wants i l o m n : ℕ} {gs run other run₁ other₁ run' other' : List ℕ} {u : Glyph ℕ} → Sided false (Merges separate merges level wants i l o i (i + m)) run other run₁ other₁ → length run₁ ≡ length run → length other₁ ≡ length other → u ≡ get_or (glyphs run₁) i zero_glyph
-    → Wrote separate apart o (copies u.info gs) n run₁ other₁ run' other' → Replaces separate apart merges level wants i l o m n gs run other run' other'
+pub replaces-of : {at : Lists} {apart merges : Bool} {level wants m n : ℕ} {gs run other run₁ other₁ run' other' : List ℕ} {u : Glyph ℕ} → Sided false (Merges at.separate merges level wants at.idx at.len at.out_len at.idx (at.idx + m)) run other run₁ other₁ → length run₁ ≡ length run → length other₁ ≡ length other → u ≡ get_or (glyphs run₁) at.idx zero_glyph
+    → Wrote at apart (copies u.info gs) n run₁ other₁ run' other' → Replaces at apart merges level wants m n gs run other run' other'
 replaces-of {run₁ = run₁} {other₁ = other₁} {u = u} w lr lo eu q = record { run₁ = run₁; other₁ = other₁; run_long = lr; other-long = lo; merged = w; first = u; first-is = eu; wrote = q }
 
 -- for the proofs of functions
-pub ruleset put-laws = (wrote-apart, wrote-moved, wrote-within, moved-room, moved-one, one_apart, one-moved, one-within, reads_first, reads-last, outputs-of, own-number, other-number, replace-puttable, replaces-of)
+pub ruleset put_laws = (brought-separate, brought-moved, brought-none, reads_first, reads-last, outputs-of, own-number, other-number, replace-puttable, replaces-of)

@@ -1,15 +1,19 @@
 -- `set_masks` and `reset_clusters`: the words of every glyph of the run, on the account.
+use Rattle.lists.proofs.Decisions.{turned}
+use Rattle.lists.specs.inner.States.{Decision}
+use Rattle.lists.specs.inner.Verdicts.{acts_of, Turned}
+use Rattle.std.specs.Prelude.{Ok, None}
 use mathlib.Core.{Path.◌≡◌, Path.refl, Path.sym, Path.ap, Path.◌∙◌, Bool.Bool, Bool.true, Bool.false, Bool.cond, Bool.◌&&◌, Bool.◌||◌, Bool.false≢true, List.List, List.[], List.◌∷◌, List.◌++◌, List.map, List.append-nil}
 use Rattle.std.proofs.Common.{ℕ, zero, suc, ◌+◌, ◌-◌, ◌<◌, ◌≤◌, zero-le, le_refl, le_of_suc-le-suc, not-suc-le-zero, add-one, arith, eq-eqb, ne_eqb, le-leb}
 use borrow.Author.Tests.{lt-leb}
 use lib.{Bits.bit_and, Bits.bit_or, Dec.leb, Dec.ltb, ListN.length, ListN.take, ListN.drop, ListN.get_or, ListN.set, ListN.length-take, ListN.drop_of_length-le, Seq.set-get_or, Seq.take_all, Seq.take_at, Seq.drop_at, Seq.length-take-le}
-use Rattle.records.specs.{Phase, Limits, Position, Contradiction, WrongPhase, Done, No, Glyphs.Glyph, Glyphs.Info, Glyphs.change, Glyphs.with_mask, Glyphs.with_cluster, Glyphs.with_position, Counters.costs, Ranges.is, Ranges.edit, Ranges.clusters, View.glyphs, View.positions_in, View.paired, inner.Stores.zero_glyph}
+use Rattle.records.specs.{Phase, Limits, Position, Contradiction, WrongPhase, Glyphs.Glyph, Glyphs.Info, Glyphs.change, Glyphs.with_mask, Glyphs.with_cluster, Glyphs.with_position, Counters.costs, Ranges.is, Ranges.edit, Ranges.clusters, View.glyphs, View.positions_in, View.paired, inner.Stores.zero_glyph}
 use Rattle.records.proofs.View.{glyphs-same, cluster-of}
 use Rattle.records.proofs.Pairs.{paired-take}
 use Rattle.lists.proofs.Showing.{on-shown}
 use Rattle.records.proofs.Apart.{Apart}
 use Rattle.records.proofs.Edited.{edit-take, edit-drop-behind}
-use Rattle.lists.specs.{declared.Buffer.Buffer, declared.Verdict.Verdict}
+use Rattle.lists.specs.{declared.Buffer.Buffer}
 use Rattle.lists.specs.{Account.Account, Account.spoiled_phase, Account.len, Account.paying, Account.with_rest, Account.accepted, Contract.shown, Contract.account_of, Contract.sound, inner.States.reply, inner.States.with_limits_of, inner.Verdicts.Leaves, inner.Verdicts.settled, inner.Verdicts.Decided}
 use Rattle.lists.proofs.Sides.{MeetsIn}
 use Rattle.lists.proofs.{Accounts.len_of, Inner.paying-of}
@@ -21,7 +25,7 @@ use Rattle.edits.proofs.MergeCalls.{acts-paid, in-acts}
 use Rattle.edits.proofs.Pairs.{paired-numbered}
 use Rattle.edits.proofs.Places.{shown-edit}
 use Rattle.edits.proofs.WholeInputs.{whole_test, not-not-whole, whole_is, whole-acts}
-use Rattle.edits.proofs.WholeCalls.{OnWhole, OnRun, whole-refuses, lying-whole, sound-whole, whole_room, whole_run, run-second, takes-decided}
+use Rattle.edits.proofs.WholeCalls.{OnWhole, OnRun, whole-refuses, lying-whole, sound-whole, whole_room, whole_run, takes-decided}
 
 -- ---- which glyphs are masked
 abbrev mask_test : ℕ → ℕ → ℕ → Bool
@@ -98,7 +102,7 @@ module _ (value mask s e : ℕ) where
     masks-some h k n en = simp (h, ne_eqb mask 0 k, en, refusing)
 
   masks-done : {b : Buffer} {run other run' : List ℕ} → WholeInput b run other → (mask ≡ 0 → ⊥) → length run' ≡ length run → glyphs run' ≡ edit 0 b.len.0 (masked value mask s e) (glyphs run)
-      → MeetsIn (λ capacity a. set_masks value mask s e a) b run other (reply (with_limits_of (costs b.len.0 b.limits) b) Done) run' other
+      → MeetsIn (λ capacity a. set_masks value mask s e a) b run other (reply (with_limits_of (costs b.len.0 b.limits) b) (Ok None)) run' other
   masks-done {b} {run} {other} {run'} w k lr eg =
       let h : Info → Info = masked value mask s e in
       let n : ℕ = b.len.0 in
@@ -109,19 +113,19 @@ module _ (value mask s e : ℕ) where
       ∙ ap (paying n) (whole_is run' other w lr refl (map (change h)) (shown-all h (mask-apart value mask s e) n run run' other eg b.phase w.clean)))).0
       (masks-some (account_of b run other) (not-not-whole w) k n (len_of b run other w.held w.clean)) refl
 
-module _ {mask : ℕ} {b : Buffer} {f s : List ℕ} {v : Verdict} where
-  pub masks-unsound : sound b f s ≡ false → Leaves b false (No Contradiction) v → SetsMasks mask b f s v
+module _ {mask : ℕ} {b : Buffer} {f s : List ℕ} {v : Decision} where
+  pub masks-unsound : sound b f s ≡ false → Turned Contradiction v → SetsMasks mask b f s v
   masks-unsound h w = record { is = λ value start stop. decided-unsound h w }
 
   module _ {t : Bool} (h : sound b f s ≡ true) (et : t ≡ whole_test b) where
-    pub masks-not-whole : t ≡ true → Leaves b false (No WrongPhase) v → SetsMasks mask b f s v
+    pub masks-not-whole : t ≡ true → Turned WrongPhase v → SetsMasks mask b f s v
     masks-not-whole k w = record { is = λ value start stop. decided-refused h (whole-refuses (on-whole-masks value mask start stop) et k) w }
 
     module _ (k : t ≡ false) where
-      pub masks-none : mask ≡ 0 → Leaves b false Done v → SetsMasks mask b f s v
-      masks-none m w = record { is = λ value start stop. decided-accepted h (accepts Done refl (near_same b) (λ run other l. (masks-nothing value mask start stop (account_of b run other) (not-not-whole (lying-whole et k l)) m, l.held))) w }
+      pub masks-none : mask ≡ 0 → Leaves b false None v → SetsMasks mask b f s v
+      masks-none m w = record { is = λ value start stop. decided-accepted h (accepts None (near_same b) (λ run other l. (masks-nothing value mask start stop (account_of b run other) (not-not-whole (lying-whole et k l)) m, l.held))) w }
 
-      pub masks-ahead : {x : Buffer} {l : Limits} → (mask ≡ 0 → ⊥) → l ≡ costs b.len.0 b.limits → x ≡ with_limits_of l b → Leaves x true Done v → SetsMasks mask b f s v
+      pub masks-ahead : {x : Buffer} {l : Limits} → (mask ≡ 0 → ⊥) → l ≡ costs b.len.0 b.limits → x ≡ with_limits_of l b → Leaves x true None v → SetsMasks mask b f s v
       masks-ahead m el ex w = record {
         is = λ value start stop. decided-does h (record {
           near = near-limits b _;
@@ -129,13 +133,6 @@ module _ {mask : ℕ} {b : Buffer} {f s : List ℕ} {v : Verdict} where
           law = λ run other run' other' l lr lo act. rw act.other-is (masks-done value mask start stop (lying-whole et k l) m lr act.run_is);
         }) (λ c. whole_run (sound-whole h et k)) (leaves-as (ex ∙ ap (λ (y : Limits). with_limits_of y b) el) w);
       }
-
-  module _ (w : SetsMasks mask b f s v) (t : v.acts ≡ true) where
-    pub masks-first : b.len.0 ≤ length (glyphs f)
-    masks-first = ((w.is 0 0 0).asked t).room.fits
-
-    pub masks-second : b.len.0 ≤ length (glyphs s)
-    masks-second = run-second ((w.is 0 0 0).asked t)
 
 -- ---- the first i glyphs are numbered
 length-numbered : {G : Type 0} (k : ℕ) (l : List (Glyph G)) → length (numbered k l) ≡ length l
@@ -216,10 +213,10 @@ on-run-reset b = record {
       (reset-all (account_of b run other) (not-not-whole w)) refl);
 }
 
-pub reset-decided : {b : Buffer} {f s : List ℕ} {v : Verdict} → TakesWhole b f s v → Decided (λ capacity a. reset_clusters a) b f s (settled b v) v.acts (RunOf b.phase b.len.0 f s) (RunBecomes (λ l. numbered 0 (take b.len.0 l) ++ drop b.len.0 l))
+pub reset-decided : {b : Buffer} {f s : List ℕ} {v : Decision} → TakesWhole b f s v → Decided (λ capacity a. reset_clusters a) b f s (settled b v) (acts_of v) (RunOf b.phase b.len.0 f s) (RunBecomes (λ l. numbered 0 (take b.len.0 l) ++ drop b.len.0 l))
 reset-decided {b} w = takes-decided (on-run-reset b) w
 
 -- for the proofs of functions
-pub ruleset mask-calls = (soundness, masks-unsound, masks-not-whole, masks-none, masks-ahead, masks-first, masks-second)
+pub ruleset mask_calls = (turned, soundness, masks-unsound, masks-not-whole, masks-none, masks-ahead)
 
 pub ruleset relabeling = (everywhere-start, everywhere-not, masked-everywhere, masked-from, masked-before, unmasked, masked-one, numbering-none, numbering-more, numbering-done, reset-decided)

@@ -1,5 +1,6 @@
 -- Renaming an account: the calls of this crate commute with it.
-use mathlib.Core.{Path.◌≡◌, Path.refl, Bool.Bool, Option.Option, List.List, List.[], List.◌∷◌, List.map}
+use mathlib.Core.{Path.◌≡◌, Path.refl, Bool.Bool, List.List, List.[], List.◌∷◌, List.map}
+use Rattle.std.specs.Prelude.{Option}
 use Rattle.std.proofs.Common.{ℕ, zero, suc}
 use lib.{ListN.drop}
 use Rattle.records.specs.{DonePlace, InputPlace, Glyphs.Glyph, Glyphs.Info, Glyphs.rename, Glyphs.change}

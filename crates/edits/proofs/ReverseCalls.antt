@@ -1,10 +1,13 @@
 -- Reversals of a buffer's run: from what the slice functions leave to the account.
+use Rattle.lists.specs.inner.States.{Decision}
+use Rattle.lists.specs.inner.Verdicts.{acts_of, Turned}
+use Rattle.std.specs.Prelude.{None}
 use mathlib.Core.{Path.◌≡◌, Path.refl, Path.sym, Path.ap, Path.◌∙◌, Bool.Bool, Bool.true, Bool.false, Bool.cond, Bool.◌||◌, Bool.false≢true, List.List, List.reverse}
 use Rattle.std.proofs.Common.{ℕ, ◌≤◌, zero-le, le_refl, arith}
 use lib.{Dec.ltb, ListN.length, ListN.take, ListN.drop, Seq.length-take-le}
-use Rattle.records.specs.{Phase, InputPlace, Contradiction, WrongPhase, OutOfRange, Done, No, Glyphs.Glyph, Ranges.infos, View.glyphs, View.positions_in}
+use Rattle.records.specs.{Phase, InputPlace, Contradiction, WrongPhase, OutOfRange, Glyphs.Glyph, Ranges.infos, View.glyphs, View.positions_in}
 use Rattle.records.proofs.View.{glyphs-same, positions-glyphs, length-paired}
-use Rattle.lists.specs.{declared.Buffer.Buffer, declared.Verdict.Verdict}
+use Rattle.lists.specs.{declared.Buffer.Buffer}
 use Rattle.lists.specs.{Account.Account, Account.positions_phase, Account.spoiled_phase, Account.with_rest, Account.refused, Account.accepted, Contract.shown, Contract.gone_of, Contract.account_of, Contract.sound, inner.Turned.turned, inner.Verdicts.Leaves, inner.Verdicts.settled, inner.Verdicts.Decided}
 use Rattle.lists.proofs.Decisions.{near_same, decided-unsound, decided-refused, decided-does}
 use Rattle.lists.proofs.SoundLaws.{soundness}
@@ -109,11 +112,11 @@ module _ (b : Buffer) where
     done = λ run other run' other' w lr lo act. in-acts (rearranged w lr lo act) (clusters-accepted (account_of b run other) (not-not-whole w)) refl;
   }
 
-module _ {b : Buffer} {f s : List ℕ} {v : Verdict} where
-  pub reverse-decided : TakesWhole b f s v → Decided (λ capacity a. reverse_run a) b f s (settled b v) v.acts (RunOf b.phase b.len.0 f s) (Turns b.phase 0 b.len.0)
+module _ {b : Buffer} {f s : List ℕ} {v : Decision} where
+  pub reverse-decided : TakesWhole b f s v → Decided (λ capacity a. reverse_run a) b f s (settled b v) (acts_of v) (RunOf b.phase b.len.0 f s) (Turns b.phase 0 b.len.0)
   reverse-decided w = takes-decided (on-run-reverse b) w
 
-  pub clusters-decided : TakesWhole b f s v → Decided (λ capacity a. reverse_clusters a) b f s (settled b v) v.acts (RunOf b.phase b.len.0 f s) (Rearranges (λ l. regrouped (group_sizes same_cluster (infos l)) l) b.phase b.len.0)
+  pub clusters-decided : TakesWhole b f s v → Decided (λ capacity a. reverse_clusters a) b f s (settled b v) (acts_of v) (RunOf b.phase b.len.0 f s) (Rearranges (λ l. regrouped (group_sizes same_cluster (infos l)) l) b.phase b.len.0)
   clusters-decided w = takes-decided (on-run-clusters b) w
 
 -- ---- 1C
@@ -124,19 +127,19 @@ on-whole-range s e = record { refuses = λ capacity a h. simp (h, refusing) }
 outside-is : (s e : InputPlace) {b : Buffer} {run other : List ℕ} {x y : Bool} → WholeInput b run other → x ≡ (ltb e.0 s.0 || (ltb b.len.0 e.0 || ltb s.0 (gone_of b))) → x ≡ y → outside_input s e (account_of b run other) ≡ y
 outside-is s e w ex p = outside_of w.held s e w.clean ∙ (sym ex ∙ p)
 
-module _ {start stop : InputPlace} {b : Buffer} {f s : List ℕ} {v : Verdict} where
-  pub range-unsound : sound b f s ≡ false → Leaves b false (No Contradiction) v → ReversesRange start stop b f s v
+module _ {start stop : InputPlace} {b : Buffer} {f s : List ℕ} {v : Decision} where
+  pub range-unsound : sound b f s ≡ false → Turned Contradiction v → ReversesRange start stop b f s v
   range-unsound h w = record { is = decided-unsound h w }
 
   module _ {t : Bool} (h : sound b f s ≡ true) (et : t ≡ whole_test b) where
-    pub range-not-whole : t ≡ true → Leaves b false (No WrongPhase) v → ReversesRange start stop b f s v
+    pub range-not-whole : t ≡ true → Turned WrongPhase v → ReversesRange start stop b f s v
     range-not-whole k w = record { is = decided-refused h (whole-refuses (on-whole-range start stop) et k) w }
 
     module _ {x : Bool} (k : t ≡ false) (ex : x ≡ (ltb stop.0 start.0 || (ltb b.len.0 stop.0 || ltb start.0 (gone_of b)))) where
-      pub range-over : x ≡ true → Leaves b false (No OutOfRange) v → ReversesRange start stop b f s v
+      pub range-over : x ≡ true → Turned OutOfRange v → ReversesRange start stop b f s v
       range-over p w = record { is = decided-refused h (record { law = λ run other l. let u = lying-whole et k l in range-outside (account_of b run other) start stop (not-not-whole u) (outside-is start stop u ex p) }) w }
 
-      pub range-ahead : x ≡ false → Leaves b true Done v → ReversesRange start stop b f s v
+      pub range-ahead : x ≡ false → Leaves b true None v → ReversesRange start stop b f s v
       range-ahead p w =
           let u = sound-whole h et k in
           let m = in-mergeful u.held start stop u.clean ex p in
@@ -150,7 +153,7 @@ module _ {start stop : InputPlace} {b : Buffer} {f s : List ℕ} {v : Verdict} w
             }) (λ c. (m.order, run-shorter (whole_run u) m.end)) w;
           }
 
-  module _ (w : ReversesRange start stop b f s v) (t : v.acts ≡ true) where
+  module _ (w : ReversesRange start stop b f s v) (t : acts_of v ≡ true) where
     pub range-order : start.0 ≤ stop.0
     range-order = (w.is.asked t).0
 
@@ -158,4 +161,4 @@ module _ {start stop : InputPlace} {b : Buffer} {f s : List ℕ} {v : Verdict} w
     range-run = (w.is.asked t).1
 
 -- for the proofs of functions
-pub ruleset reverse-calls = (soundness, tested, turns-plain, turns-positions, reverse-decided, clusters-decided, range-unsound, range-not-whole, range-over, range-ahead, range-order, range-run)
+pub ruleset reverse_calls = (turned, soundness, tested, places-fit, turns-plain, turns-positions, reverse-decided, clusters-decided, range-unsound, range-not-whole, range-over, range-ahead, range-order, range-run)

@@ -73,4 +73,4 @@ module _ {G : Type 0} (a : Account G) where
   searches = record { set = λ e w. searches-whole (switched a.state.level a.state.wants e w); clear = λ n. as_before (not-switched a.state.level a.state.wants n) }
 
 -- for the proofs of functions
-pub ruleset search-tests = (search-switched, search-clear, search-other)
+pub ruleset search_tests = (search-switched, search-clear, search-other)

@@ -1,12 +1,17 @@
 -- `set_length`: zeros behind the run, on the account.
+use Rattle.lists.proofs.Decisions.{turned}
+use Rattle.lists.specs.inner.States.{Decision}
+use Rattle.lists.specs.inner.Verdicts.{Turned}
+use Rattle.std.specs.Prelude.{Ok, Some}
+use Rattle.lists.specs.inner.Held.{fitting}
 use mathlib.Core.{Path.◌≡◌, Path.refl, Path.sym, Path.ap, Path.◌∙◌, Bool.Bool, Bool.true, Bool.false, List.List, List.◌++◌, List.append-nil}
 use Rattle.std.proofs.Common.{ℕ, ◌-◌, ◌<◌, ◌≤◌, arith}
 use lib.{ListN.length, ListN.take, ListN.drop, ListN.replicate, Seq.take_all, Seq.take-take, Seq.length-take-le}
-use Rattle.records.specs.{Phase, Position, Limits, Contradiction, WrongPhase, Value, No, Glyphs.Glyph, Glyphs.blank, Glyphs.zero_position, Counters.capacity_of, Counters.grown, Ranges.copies, View.glyphs, View.positions_in, View.paired}
+use Rattle.records.specs.{Phase, Position, Limits, Contradiction, WrongPhase, Glyphs.Glyph, Glyphs.blank, Glyphs.zero_position, Counters.capacity_of, Counters.grown, Ranges.copies, View.glyphs, View.positions_in, View.paired}
 use Rattle.records.proofs.View.{length-paired}
 use Rattle.records.proofs.Pairs.{paired-take, paired-append}
-use Rattle.lists.specs.{declared.Buffer.Buffer, declared.Verdict.Verdict, declared.Room.TheVariants.Fits}
-use Rattle.lists.specs.{Account.Account, Account.positions_phase, Account.len, Account.sized, Account.failing, Account.with_rest, inner.Filled.filled, Account.answered, Account.needing, Contract.shown, Contract.account_of, Contract.sound, inner.Held.room_for, inner.States.reply, inner.Verdicts.Leaves}
+use Rattle.lists.specs.{declared.Buffer.Buffer}
+use Rattle.lists.specs.{Account.Account, Account.positions_phase, Account.len, Account.sized, Account.failing, Account.with_rest, inner.Filled.filled, Account.answered, Account.needing, Contract.shown, Contract.account_of, Contract.sound, inner.Held.room_for, inner.States.reply}
 use Rattle.lists.proofs.Sides.{MeetsIn}
 use Rattle.lists.proofs.{Accounts.len_of, Calls.in-answered, Filling.take-filled, Filling.drop-filled}
 use Rattle.lists.proofs.Inner.{Roomy, roomy-grown}
@@ -92,8 +97,8 @@ module _ (n : ℕ) where
         ≡ needing (capacity_of (length run)) n (account_of b run other) (answered 1 (with_rest (take n (account_of b run other).rest ++ copies (blank 0) (replicate (n - b.len.0) 0)) (sized n (account_of b run other)))) (answered 0 (failing (account_of b run other)))
     length-is = length-needs _ _ (not-not-whole w) b.len.0 (len_of b run other w.held w.clean)
 
-    length-done : {run' other' : List ℕ} → room_for (capacity_of (length run)) n b.limits ≡ Fits → length run' ≡ length run → length other' ≡ length other
-        → Lengthened b.phase b.len.0 n run other run' other' → MeetsIn (λ capacity a. set_length 0 capacity n a) b run other (reply (longer_buffer n (grown n b.limits) b) (Value 1)) run' other'
+    length-done : {run' other' : List ℕ} → room_for (capacity_of (length run)) n b.limits ≡ fitting → length run' ≡ length run → length other' ≡ length other
+        → Lengthened b.phase b.len.0 n run other run' other' → MeetsIn (λ capacity a. set_length 0 capacity n a) b run other (reply (longer_buffer n (grown n b.limits) b) (Ok (Some 1))) run' other'
     unfolding sized
     length-done {run'} {other'} h lr lo x =
         let more : List (Glyph ℕ) = copies (blank 0) (replicate (n - b.len.0) 0) in
@@ -102,28 +107,24 @@ module _ (n : ℕ) where
         (length-is ∙ (room_fits w n h _ _ ∙ ap (answered 1) (sym (longer-is w n (grown n) r run' other' lr lo _ (x.is ∙ ap (λ (l : List (Glyph ℕ)). take n l ++ more) (sym (rest-is w)))))))
         refl
 
-  length-needing : (b : Buffer) → Needing (λ capacity a. set_length 0 capacity n a) b n (grown n b.limits) (Value 1) (Value 0) (RunOf b.phase n) (Lengthened b.phase b.len.0 n)
+  length-needing : (b : Buffer) → Needing (λ capacity a. set_length 0 capacity n a) b n (grown n b.limits) (Some 1) (Some 0) (RunOf b.phase n) (Lengthened b.phase b.len.0 n)
   length-needing b = record {
     then = _;
     sized = λ run other w. length-is w;
     done = λ run other run' other' w h lr lo act. length-done w h lr lo act;
     asked = λ f s w k. record { clean = w.clean; room = record { fits = k; same = w.held.same; few = omega (arith, k, w.held.most) } };
-    plain = refl;
   }
 
-module _ {n : ℕ} {b : Buffer} {f s : List ℕ} {v : Verdict} where
-  pub length-unsound : sound b f s ≡ false → Leaves b false (No Contradiction) v → SetsLength n b f s v
+module _ {n : ℕ} {b : Buffer} {f s : List ℕ} {v : Decision} where
+  pub length-unsound : sound b f s ≡ false → Turned Contradiction v → SetsLength n b f s v
   length-unsound h w = record { is = decided-unsound h w }
 
   module _ {t : Bool} (h : sound b f s ≡ true) (et : t ≡ whole_test b) where
-    pub length-not-whole : t ≡ true → Leaves b false (No WrongPhase) v → SetsLength n b f s v
+    pub length-not-whole : t ≡ true → Turned WrongPhase v → SetsLength n b f s v
     length-not-whole k w = record { is = decided-refused h (whole-refuses (on-whole-length n) et k) w }
 
-    pub length-ahead : {m : ℕ} {l : Limits} → t ≡ false → m ≡ capacity_of (length f) → l ≡ grown n b.limits → Lengthens m n l (Value 1) (Value 0) b v → SetsLength n b f s v
+    pub length-ahead : {m : ℕ} {l : Limits} → t ≡ false → m ≡ capacity_of (length f) → l ≡ grown n b.limits → Lengthens m n l (Some 1) (Some 0) b v → SetsLength n b f s v
     length-ahead k em el w = record { is = decided-lengthens h et k (length-needing n b) em (rw el at w) }
 
-  pub length-asked : SetsLength n b f s v → v.acts ≡ true → RunOf b.phase n f s
-  length-asked w t = w.is.asked t
-
 -- for the proofs of functions
-pub ruleset length-calls = (soundness, tested, lengthened-short, lengthened-plain, lengthened-positions, length-unsound, length-not-whole, length-ahead, length-asked)
+pub ruleset length_calls = (turned, soundness, tested, lengthened-short, lengthened-plain, lengthened-positions, length-unsound, length-not-whole, length-ahead)

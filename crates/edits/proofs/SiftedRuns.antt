@@ -1,13 +1,15 @@
 -- Call 21: the loop over the glyphs, the run that it leaves, and the call.
+use Rattle.lists.specs.inner.Verdicts.{amended}
+use Rattle.lists.specs.inner.States.{Decision}
+use Rattle.std.specs.Prelude.{Ok, None}
 use mathlib.Core.{Path.◌≡◌, Path.refl, Path.sym, Path.ap, Path.◌∙◌, Path.subst, Bool.Bool, Bool.true, Bool.false, Bool.false≢true, List.List}
 use Rattle.std.proofs.Common.{ℕ, suc, ◌+◌, ◌-◌, ◌<◌, ◌≤◌, arith}
 use native.Mathlib.Nat.{sub-zero}
 use lib.{Dec.ltb, ListN.length, ListN.take, ListN.get_or}
-use Rattle.records.specs.{Phase, Plain, Output, Positions, Spoiled, WrongPhase, BadOperand, Done, Limits, Glyphs.key, View.glyphs, View.positions_in, View.words_from, inner.Stores.zero_glyph}
+use Rattle.records.specs.{Phase, Plain, Output, Positions, Spoiled, WrongPhase, BadOperand, Limits, Glyphs.key, View.glyphs, View.positions_in, View.words_from, inner.Stores.zero_glyph}
 use Rattle.records.proofs.View.{glyphs-same}
 use Rattle.lists.proofs.Showing.{shown-glyphs, shown-positions}
-use Rattle.lists.specs.{declared.Buffer.Buffer, declared.Verdict.Verdict}
-use Rattle.lists.specs.inner.Verdicts.{Sided}
+use Rattle.lists.specs.{declared.Buffer.Buffer}
 use Rattle.lists.specs.{Account.read_level, Account.Account, Account.output_phase, Account.positions_phase, Account.spoiled_phase, Account.with_gone, Account.refused, Account.accepted, Contract.shown, Contract.state_of, Contract.account_of, inner.Held.Held, inner.States.reply, inner.Verdicts.leaving, inner.Verdicts.settled}
 use Rattle.lists.proofs.SoundLaws.{held-lengths}
 use Rattle.lists.proofs.Refusing.{refusing}
@@ -104,9 +106,9 @@ module _ {slot mask value : ℕ} {t : Bool} {level wants n : ℕ} {l₀ : Limits
       }
 
       module _ {k : ℕ} (ek : k ≡ key slot mask (get_or (glyphs run) i zero_glyph).info) {run₁ other₁ run' other' : List ℕ} {l' : Limits} {o' : ℕ} where
-        pub sifting-deleted : {l₁ : Limits} {merged : Bool} → Sided false (Deletes false level wants i n o merged) run other run₁ other₁ → k ≡ value → l₁ ≡ merge_limits merged 2 l → length run₁ ≡ length run → length other₁ ≡ length other
+        pub sifting-deleted : {l₁ : Limits} {merged : Bool} → Deletes false level wants i n o merged run other run₁ other₁ → k ≡ value → l₁ ≡ merge_limits merged 2 l → length run₁ ≡ length run → length other₁ ≡ length other
             → run' ≡ run₁ → other' ≡ other₁ → l' ≡ l₁ → o' ≡ o → SiftingOf slot mask value t level wants n l₀ run₀ other₀ l' run' other' (i + 1) o'
-        sifting-deleted d h el lr lo er eo e eq = rw (er, eo, e ∙ el, eq) (further lr lo (omega (arith, v.low)) (λ b w. one-deleted t slot mask value (next b w) ek h (d.first refl)))
+        sifting-deleted d h el lr lo er eo e eq = rw (er, eo, e ∙ el, eq) (further lr lo (omega (arith, v.low)) (λ b w. one-deleted t slot mask value (next b w) ek h d))
 
         pub sifting-kept : MovesGlyph t i o run other run₁ other₁ → (k ≡ value → ⊥) → length run₁ ≡ length run → length other₁ ≡ length other
             → run' ≡ run₁ → other' ≡ other₁ → l' ≡ l → o' ≡ o + 1 → SiftingOf slot mask value t level wants n l₀ run₀ other₀ l' run' other' (i + 1) o'
@@ -201,8 +203,8 @@ module _ (slot mask value : ℕ) (a : Account ℕ) where
 abbrev left : Kept → Buffer → Buffer
 left k x = record { idx = x.idx; len = record { 0 = k.len }; out_len = x.out_len; limits = k.limits; wants = x.wants; phase = x.phase; swapped = x.swapped; have_separate_output = x.have_separate_output; level = x.level }
 
-settles-kept : (b : Buffer) (k : Kept) → settled b (kept_with k (leaving b true Done)) ≡ reply (left k b) Done
-settles-kept b k = settled_at b (kept_with k (leaving b true Done)) ∙ ap (λ (x : Buffer). reply x Done) (placed-is k.limits b b.idx.0 k.len b.out_len.0)
+settles-kept : (b : Buffer) (k : Kept) → settled b (amended (kept_with k) (leaving b true None)) ≡ reply (left k b) (Ok None)
+settles-kept b k = settled_at b (record { idx = b.idx.0; len = k.len; out_len = b.out_len.0; limits = k.limits; apart = false; acts = true; value = None }) ∙ ap (λ (x : Buffer). reply x (Ok None)) (placed-is k.limits b b.idx.0 k.len b.out_len.0)
 
 module _ {slot : ℕ} (mask value : ℕ) {b : Buffer} where
   module _ {t : Bool} (et : t ≡ positions_phase b.phase) where
@@ -219,7 +221,7 @@ module _ {slot : ℕ} (mask value : ℕ) {b : Buffer} where
       done = λ k run other run' other' w h lr lo c. in-acts (sifts-acts w c) (inplace-accepts slot mask value _ (not-not-whole w) h) (settles-kept b k);
     }
 
-    pub inplace-decided : {f s : List ℕ} {v : Verdict} → TakesKeyed slot b f s v
+    pub inplace-decided : {f s : List ℕ} {v : Decision} → TakesKeyed slot b f s v
         → DecidedBy Kept kept_with (λ capacity a. delete_glyphs_inplace slot mask value a) b f s v (RunRoom b.len.0 f s) (Sifts slot mask value t b.level b.wants b.len.0 b.limits)
     inplace-decided w = keyed-decided inplace-on w
 

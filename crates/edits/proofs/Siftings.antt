@@ -197,4 +197,4 @@ module _ (t : Bool) (slot mask value : ℕ) {level wants n i o : ℕ} {l : Limit
     one_kept h u lr lo = onward-as (keep-onward t v u lr lo) (rw (ne_eqb (key slot mask (current (underway t (amid level wants n b l i o) run other))) value (λ q. h (ek ∙ (sym key_here ∙ q)))))
 
 -- for the proofs of functions
-pub ruleset moving-down = (position-moved, position-none, glyph-same, glyph-moved)
+pub ruleset moving_down = (position-moved, position-none, glyph-same, glyph-moved)

@@ -1,9 +1,13 @@
 -- Verdicts of the calls on the whole run.
+use Rattle.lists.proofs.Decisions.{turned}
+use Rattle.lists.specs.inner.States.{Decision}
+use Rattle.lists.specs.inner.Verdicts.{acts_of, Turned}
+use Rattle.std.specs.Prelude.{Ok, Err, None}
 use mathlib.Core.{Path.◌≡◌, Path.refl, Path.sym, Path.ap, Path.◌∙◌, Bool.Bool, Bool.true, Bool.false, Bool.cond, Bool.false≢true, List.List}
 use Rattle.std.proofs.Common.{ℕ, ◌<◌, ◌≤◌, length, arith}
-use Rattle.records.specs.{Phase, Contradiction, WrongPhase, Done, No, Glyphs.Glyph, View.glyphs, View.positions_in}
+use Rattle.records.specs.{Phase, Contradiction, WrongPhase, Glyphs.Glyph, View.glyphs, View.positions_in}
 use Rattle.records.proofs.View.{glyphs-same, positions-glyphs}
-use Rattle.lists.specs.{declared.Buffer.Buffer, declared.Reply.Reply, declared.Verdict.Verdict}
+use Rattle.lists.specs.{declared.Buffer.Buffer, declared.Reply.Reply}
 use Rattle.lists.specs.{Account.Account, Contract.Meets, Account.Result, Account.refused, Contract.sound, inner.States.reply, inner.Verdicts.leaving, inner.Verdicts.Leaves, inner.Verdicts.settled, inner.Verdicts.Decided}
 use Rattle.lists.proofs.Sides.{MeetsIn}
 use Rattle.lists.proofs.SoundLaws.{sound-held, soundness}
@@ -72,44 +76,44 @@ module _ {b : Buffer} {run other : List ℕ} (w : WholeInput b run other) where
   whole_run = record { clean = w.clean; room = whole_room }
 
 -- ---- 1B, 1D, 1F, 23: the verdict that they share
-module _ {b : Buffer} {f s : List ℕ} {v : Verdict} where
-  pub takes-unsound : sound b f s ≡ false → Leaves b false (No Contradiction) v → TakesWhole b f s v
+module _ {b : Buffer} {f s : List ℕ} {v : Decision} where
+  pub takes-unsound : sound b f s ≡ false → Turned Contradiction v → TakesWhole b f s v
   unfolding whole_verdict
   takes-unsound h w = record { is = rw h w.is }
 
   module _ {t : Bool} (h : sound b f s ≡ true) (et : t ≡ whole_test b) where
-    pub takes-not : t ≡ true → Leaves b false (No WrongPhase) v → TakesWhole b f s v
+    pub takes-not : t ≡ true → Turned WrongPhase v → TakesWhole b f s v
     unfolding whole_verdict
     takes-not k w = record { is = rw (h, sym et ∙ k) w.is }
 
-    pub takes-ahead : t ≡ false → Leaves b true Done v → TakesWhole b f s v
+    pub takes-ahead : t ≡ false → Leaves b true None v → TakesWhole b f s v
     unfolding whole_verdict
     takes-ahead k w = record { is = rw (h, sym et ∙ k) w.is }
 
 -- what each of them does where it goes ahead
 pub record OnRun (call : ℕ → Account ℕ → Result ℕ) (b : Buffer) (Act : (run other run' other' : List ℕ) → Type 0) : Type 0 where
   pub whole : OnWhole call
-  pub done : (run other run' other' : List ℕ) → WholeInput b run other → length run' ≡ length run → length other' ≡ length other → Act run other run' other' → MeetsIn call b run other (reply b Done) run' other'
+  pub done : (run other run' other' : List ℕ) → WholeInput b run other → length run' ≡ length run → length other' ≡ length other → Act run other run' other' → MeetsIn call b run other (reply b (Ok None)) run' other'
 
-pub takes-decided : {call : ℕ → Account ℕ → Result ℕ} {b : Buffer} {f s : List ℕ} {v : Verdict} {Act : (run other run' other' : List ℕ) → Type 0} → OnRun call b Act → TakesWhole b f s v → Decided call b f s (settled b v) v.acts (RunOf b.phase b.len.0 f s) Act
+pub takes-decided : {call : ℕ → Account ℕ → Result ℕ} {b : Buffer} {f s : List ℕ} {v : Decision} {Act : (run other run' other' : List ℕ) → Type 0} → OnRun call b Act → TakesWhole b f s v → Decided call b f s (settled b v) (acts_of v) (RunOf b.phase b.len.0 f s) Act
 unfolding whole_verdict
 takes-decided {call} {b} {f} {s} {v} {Act} r w = by (sound b f s) (whole_test b) refl refl w.is
   where
-    by : (x y : Bool) → sound b f s ≡ x → whole_test b ≡ y → v ≡ cond x (cond y (leaving b false (No WrongPhase)) (leaving b true Done)) (leaving b false (No Contradiction)) → Decided call b f s (settled b v) v.acts (RunOf b.phase b.len.0 f s) Act
-    by false y h k e = decided-unsound h (leaves-is b e)
-    by true true h k e = decided-refused h (whole-refuses r.whole refl k) (leaves-is b e)
+    by : (x y : Bool) → sound b f s ≡ x → whole_test b ≡ y → v ≡ cond x (cond y (Err WrongPhase) (leaving b true None)) (Err Contradiction) → Decided call b f s (settled b v) (acts_of v) (RunOf b.phase b.len.0 f s) Act
+    by false y h k e = decided-unsound h (record { is = e })
+    by true true h k e = decided-refused h (whole-refuses r.whole refl k) (record { is = e })
     by true false h k e = decided-does h (record {
       near = near_same b;
       none = λ c. absurd (false≢true (sym c));
       law = λ run other run' other' l lr lo act. r.done run other run' other' (lying-whole refl k l) lr lo act;
     }) (λ c. whole_run (sound-whole h refl k)) (leaves-is b e)
 
-module _ {b : Buffer} {f s : List ℕ} {v : Verdict} (w : TakesWhole b f s v) (t : v.acts ≡ true) where
+module _ {b : Buffer} {f s : List ℕ} {v : Decision} {t' : Bool} (w : TakesWhole b f s v) (et : t' ≡ acts_of v) (t : t' ≡ true) where
   pub takes_run : RunOf b.phase b.len.0 f s
   unfolding whole_verdict
-  takes_run = by (sound b f s) (whole_test b) refl refl (ap (λ (x : Verdict). x.acts) w.is)
+  takes_run = by (sound b f s) (whole_test b) refl refl (et ∙ ap acts_of w.is)
     where
-      by : (x y : Bool) → sound b f s ≡ x → whole_test b ≡ y → v.acts ≡ (cond x (cond y (leaving b false (No WrongPhase)) (leaving b true Done)) (leaving b false (No Contradiction))).acts → RunOf b.phase b.len.0 f s
+      by : (x y : Bool) → sound b f s ≡ x → whole_test b ≡ y → t' ≡ acts_of (cond x (cond y (Err WrongPhase) (leaving b true None)) (Err Contradiction)) → RunOf b.phase b.len.0 f s
       by false y h k e = absurd (false≢true (sym e ∙ t))
       by true true h k e = absurd (false≢true (sym e ∙ t))
       by true false h k e = whole_run (sound-whole h refl k)
@@ -124,6 +128,11 @@ module _ {b : Buffer} {f s : List ℕ} {v : Verdict} (w : TakesWhole b f s v) (t
   takes-few = takes_run.room.few
 
 -- for the proofs of functions
-pub ruleset whole-calls = (soundness, takes-unsound, takes-not, takes-ahead, takes_run, takes_first, takes-second, takes-few)
+pub ruleset whole-calls = (turned, soundness, takes-unsound, takes-not, takes-ahead, takes_run, takes_first, takes-second, takes-few)
 
 pub ruleset run-laws = (room-turned, run-turned, places-fit, run-lengths, below, run-becomes)
+
+-- the same, as an attribute names it
+pub ruleset whole_calls = whole-calls
+
+pub ruleset run_laws = run-laws

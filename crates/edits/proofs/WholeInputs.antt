@@ -7,7 +7,6 @@ use Rattle.records.proofs.View.{beyond-glyphs, beyond-positions}
 use Rattle.lists.specs.declared.Buffer.{Buffer}
 use Rattle.lists.specs.{Account.output_phase, Account.spoiled_phase, Account.idx, Account.with_rest, Contract.shown, Contract.gone_of, Contract.state_of, Contract.account_of, inner.Held.Held}
 use Rattle.lists.proofs.{Outputs.gone-without, Accounts.output-of, Accounts.spoiled-of, Accounts.idx-of, Accounts.rest_of, SoundLaws.held-lengths}
-use Rattle.records.proofs.Tests.{tested}
 use Rattle.lists.proofs.Showing.{account-is}
 use Rattle.edits.specs.{inner.Acts.Acts, WholeRun.not_whole, inner.Wholes.WholeInput}
 use Rattle.edits.proofs.Holding.{behind-further}
@@ -16,16 +15,6 @@ use Rattle.edits.proofs.MergeCalls.{neither_left, neither_right}
 -- ---- the test
 abbrev pub whole_test : Buffer → Bool
 whole_test b = output_phase b.phase || (spoiled_phase b.phase || ltb 0 b.idx.0)
-
-module _ (o s t : Bool) where
-  pub test-output : o ≡ true → true ≡ (o || (s || t))
-  test-output h = rw h
-
-  pub test-spoiled : o ≡ false → s ≡ true → true ≡ (o || (s || t))
-  test-spoiled h k = rw (h, k)
-
-  pub test-cursor : o ≡ false → s ≡ false → t ≡ (o || (s || t))
-  test-cursor h k = rw (h, k)
 
 module _ {b : Buffer} {run other : List ℕ} (v : Held b run other) where
   pub whole-test : not_whole (account_of b run other) ≡ whole_test b
@@ -81,6 +70,3 @@ module _ {b : Buffer} {run other run' other' : List ℕ} (w : WholeInput b run o
           other-beyond = beyond-positions n other' other (behind-further b.len.0 n (positions_in other) (positions_in other') w.held.len-in dp);
           held = w.held;
         }
-
--- for the proofs of functions
-pub ruleset whole-tests = (tested, test-output, test-spoiled, test-cursor)

@@ -1,12 +1,14 @@
 -- Calls that write, below their shells: from what the code tests and what its writes promise to the call on the account.
+use Rattle.std.specs.Prelude.{Ok, None}
+use Rattle.lists.specs.inner.Held.{fitting}
 use mathlib.Core.{Path.◌≡◌, Path.refl, Path.sym, Path.ap, Path.◌∙◌, Bool.Bool, Bool.true, Bool.false, Bool.cond, List.List, List.[], List.◌∷◌, List.◌++◌, List.reverse, List.reverse-append}
 use Rattle.std.proofs.Common.{ℕ, suc, ◌+◌, ◌-◌, ◌<◌, ◌≤◌, arith, le-ltb, lt-ltb, eq-eqb, ne_eqb}
 use lib.{Dec.eqb, Dec.ltb, ListN.length, ListN.take, ListN.get_or, Seq.slice, Seq.slice-cons, Seq.slice_empty, Seq.take-suc}
-use Rattle.records.specs.{WrongPhase, OutOfRange, Done, Limits, Counters.capacity_of, Counters.grown, Glyphs.Glyph, Glyphs.Info, Glyphs.with_origin, Glyphs.zero_position, Glyphs.blank, Ranges.copies, Ranges.infos, View.glyphs, inner.Stores.zero_glyph, View.words_from}
+use Rattle.records.specs.{WrongPhase, OutOfRange, Limits, Counters.capacity_of, Counters.grown, Glyphs.Glyph, Glyphs.Info, Glyphs.with_origin, Glyphs.zero_position, Glyphs.blank, Ranges.copies, Ranges.infos, View.glyphs, inner.Stores.zero_glyph, View.words_from}
 use Rattle.records.proofs.{Renaming.append-map}
 use Rattle.lists.proofs.Changed.{other-limits}
 use Rattle.lists.proofs.Showing.{done-list, rest-list}
-use Rattle.lists.specs.{declared.Buffer.Buffer, declared.Reply.Reply, declared.Room.TheVariants.Fits}
+use Rattle.lists.specs.{declared.Buffer.Buffer, declared.Reply.Reply}
 use Rattle.lists.specs.{Account.Account, Account.output_phase, Account.with_gone, Account.has_output, Account.out_length, Account.failing, Account.sized, Cursor.dropping, Account.Result, Account.refused, Account.accepted, Account.needing, Contract.account_of, inner.Held.Held, inner.Held.room_for, inner.States.reply, inner.States.with_limits_of}
 use Rattle.lists.proofs.Sides.{MeetsIn, SyncOutput}
 use Rattle.lists.proofs.{Accounts.output-clean, Accounts.limits_of, Accounts.out_of, Accounts.rest_of, SizeLaws.needing-fits, Calls.in-accepted}
@@ -20,7 +22,7 @@ use Rattle.lists.proofs.Refusing.{refusing}
 -- ---- other limits
 module _ (b : Buffer) (run other : List ℕ) where
   module _ (v : Held b run other) where
-    held_grown : (n : ℕ) → room_for (capacity_of (length run)) n b.limits ≡ Fits → Held (with_limits_of (grown n b.limits) b) run other
+    held_grown : (n : ℕ) → room_for (capacity_of (length run)) n b.limits ≡ fitting → Held (with_limits_of (grown n b.limits) b) run other
     held_grown n h = let r = roomy-grown b run other v n h in held-limits b run other v (grown n b.limits) r.grows r.within
 
 -- ---- a size of n glyphs more, and then x
@@ -36,9 +38,9 @@ module _ {b : Buffer} {run other : List ℕ} (v : SyncOutput b run other) (n : �
   limits-room h = ap (room_for (capacity_of (length run)) (b.out_len.0 + n)) (limits_of b run other) ∙ h
 
   -- f is the buffer after it
-  pub writing-done : {r : Reply} {f : Buffer} {run' other' : List ℕ} → room_for (capacity_of (length run)) (b.out_len.0 + n) b.limits ≡ Fits → f.swapped ≡ b.swapped
+  pub writing-done : {r : Reply} {f : Buffer} {run' other' : List ℕ} → room_for (capacity_of (length run)) (b.out_len.0 + n) b.limits ≡ fitting → f.swapped ≡ b.swapped
       → words_from f.limits.allocated run' ≡ words_from f.limits.allocated run → words_from f.limits.allocated other' ≡ words_from f.limits.allocated other → Held f run other
-      → account_of f run' other' ≡ x before → r ≡ reply f Done → MeetsIn (λ capacity a. writing capacity n (x a) a) b run other r run' other'
+      → account_of f run' other' ≡ x before → r ≡ reply f (Ok None) → MeetsIn (λ capacity a. writing capacity n (x a) a) b run other r run' other'
   writing-done {r} {f} h side br bo w e er = in-accepted f side br bo w (writing-room ∙ (needing-fits _ _ before _ _ (limits-room h) ∙ ap accepted (sym e))) er
 
 -- ---- the size, and what may be written then
@@ -47,13 +49,13 @@ module _ {b : Buffer} {run other : List ℕ} (v : SyncOutput b run other) where
   out-size a e n = ap (λ (k : Account ℕ). sized (out_length k + n) k) e ∙ ap (λ (k : ℕ). sized (k + n) (account_of b run other)) (out_of b run other v.held)
 
   -- only the size is made
-  pub size-done : (n : ℕ) {r : Reply} {l : Limits} {g : Buffer} → room_for (capacity_of (length run)) (b.out_len.0 + n) b.limits ≡ Fits → l ≡ grown (b.out_len.0 + n) b.limits → g ≡ with_limits_of l b → r ≡ reply g Done → MeetsIn (λ capacity a. writing capacity n (sized (out_length a + n) a) a) b run other r run other
+  pub size-done : (n : ℕ) {r : Reply} {l : Limits} {g : Buffer} → room_for (capacity_of (length run)) (b.out_len.0 + n) b.limits ≡ fitting → l ≡ grown (b.out_len.0 + n) b.limits → g ≡ with_limits_of l b → r ≡ reply g (Ok None) → MeetsIn (λ capacity a. writing capacity n (sized (out_length a + n) a) a) b run other r run other
   size-done n h el eg er =
       writing-done v n (λ a. sized (out_length a + n) a) h (limits-side (grown (b.out_len.0 + n) b.limits) b) refl refl (held_grown b run other v.held (b.out_len.0 + n) h)
       (sized_of b run other (b.out_len.0 + n) ∙ sym (out-size (account_of b run other) refl n))
-      (er ∙ ap (λ (k : Buffer). reply k Done) (eg ∙ ap (λ (k : Limits). with_limits_of k b) el))
+      (er ∙ ap (λ (k : Buffer). reply k (Ok None)) (eg ∙ ap (λ (k : Limits). with_limits_of k b) el))
 
-  pub grown-roomy : (m n : ℕ) → room_for (capacity_of (length run)) (b.out_len.0 + n) b.limits ≡ Fits → b.idx.0 + m ≤ b.len.0 → Roomy (with_limits_of (grown (b.out_len.0 + n) b.limits) b) m n run other
+  pub grown-roomy : (m n : ℕ) → room_for (capacity_of (length run)) (b.out_len.0 + n) b.limits ≡ fitting → b.idx.0 + m ≤ b.len.0 → Roomy (with_limits_of (grown (b.out_len.0 + n) b.limits) b) m n run other
   grown-roomy m n h k = record { held = held_grown b run other v.held (b.out_len.0 + n) h; output = simp other-limits v.output; in_len = simp other-limits k; in_size = simp other-limits (roomy-grown b run other v.held (b.out_len.0 + n) h).room }
 
 pub dropping-none : (a : Account ℕ) → dropping 0 a ≡ a

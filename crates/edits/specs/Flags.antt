@@ -1,13 +1,10 @@
 -- Flags: calls 15 to 19.
-use Rattle.std.specs.Prelude.{◌+◌, ◌-◌, ◌/◌, ◌%◌, ◌≤◌, ◌&&◌, ◌||◌, ◌≡◌}
-use Rattle.records.specs.Library.{ℕ, min, Bool, false, cond, not, ltb, Option, none, some, List, take, drop}
+use Rattle.std.specs.Prelude.{◌+◌, ◌-◌, ◌/◌, ◌%◌, ◌≤◌, ◌&&◌, ◌||◌, ◌≡◌, Option, None, Some}
+use Rattle.records.specs.Library.{ℕ, min, Bool, false, cond, not, ltb, List, take, drop}
 use Rattle.records.specs.Library.{slice}
 use Rattle.records.specs.{DonePlace, InputPlace, WrongPhase, OutOfRange, Glyphs.Glyph, Glyphs.flagged, Glyphs.flagged_unless, Ranges.clusters, Ranges.edit}
 use Rattle.records.specs.{Ranges.is, Ranges.isnt, Ranges.least, Ranges.first_cluster, Ranges.last_cluster, Ranges.heads, Ranges.tails}
 use Rattle.lists.specs.Account.{Account, has_output, is_spoiled, input, len, idx, out_length, with_input, with_done, Result, accepted, refuse◌when◌else◌}
-use Rattle.edits.specs.{declared.InputBound.InputBound, declared.InputBound.TheVariants.Open as InputOpen}
-use Rattle.edits.specs.{declared.InputBound.TheVariants.At as InputAt, declared.DoneBound.DoneBound, declared.DoneBound.TheVariants.Open as DoneOpen}
-use Rattle.edits.specs.{declared.DoneBound.TheVariants.At as DoneAt}
 
 -- "wants (bit 0 unsafe-to-concat, bit 1 tatweel)"; "Wants bit 2 switches level 3 to the search that level 2 has." (document 02, N11)
 abbrev pub wants_concat : ℕ → Bool
@@ -32,24 +29,24 @@ sought level r = cond (seeks_all level) (least r) (min (first_cluster r) (last_c
 
 -- a bound, given or open, as a number
 unfoldable pub place_number : {P : Type 0} → (P → ℕ) → Option P → Option ℕ
-place_number h none = none
-place_number h (some p) = some (h p)
+place_number h None = None
+place_number h (Some p) = Some (h p)
 
 -- "both bounds given and end − start, modulo 2^64, over 255". "A place in *done* and a place in the input are counted apart and never stand for each
 -- other.": here alone the one is subtracted from the other
 unfoldable pub too_far : (start end : Option ℕ) → Bool
-too_far none e = false
-too_far (some s) none = false
-too_far (some s) (some e) = ltb 255 ((e + 18446744073709551616 - s) % 18446744073709551616)
+too_far None e = false
+too_far (Some s) None = false
+too_far (Some s) (Some e) = ltb 255 ((e + 18446744073709551616 - s) % 18446744073709551616)
 
 -- "An open start reads as 0, an end open or past `len` then as `len`."
 unfoldable pub start_of : Option ℕ → ℕ
-start_of none = 0
-start_of (some s) = s
+start_of None = 0
+start_of (Some s) = s
 
 unfoldable pub end_of : Option ℕ → ℕ → ℕ
-end_of none n = n
-end_of (some e) n = min e n
+end_of None n = n
+end_of (Some e) n = min e n
 
 module _ {G : Type 0} where
   -- "At level 2, or if m is neither the range's first nor its last cluster, every glyph not of m is marked. Else glyphs are marked from the end back to
@@ -126,10 +123,3 @@ module _ {G : Type 0} (a : Account G) where
   pub record Searches : Type 0 where
     pub set : a.state.level ≡ 3 → a.state.wants / 4 % 2 ≡ 1 → SearchesWhole
     pub clear : (a.state.level ≡ 3 → a.state.wants / 4 % 2 ≡ 1 → ⊥) → SearchesAsBefore
-
--- ---- Bounds of the flag forms as the account takes them.
-unfoldable pub input_bound : InputBound → Option InputPlace
-input_bound b = elim b [ InputOpen ↦ none | InputAt p ↦ some p ]
-
-unfoldable pub done_bound : DoneBound → Option DonePlace
-done_bound b = elim b [ DoneOpen ↦ none | DoneAt p ↦ some p ]

@@ -1,68 +1,63 @@
-// Bounds of the flag forms: open, or a place.
-ghost use Rattle.std.specs.Prelude.{◌≡◌, min};
-ghost use Rattle.std.proofs.Math.Option.{some};
-ghost use Rattle.edits.specs.Flags.{too_far, start_of, end_of};
-ghost use Rattle.edits.specs.inner.BoundNumbers.{input_number, done_number};
+// Bounds of the flag forms: open, or a place of *done* or of the input.
+ghost use Rattle.std.specs.Prelude.{◌≡◌, ℕ};
+ghost use Rattle.edits.specs.Flags.{place_number, too_far, start_of, end_of};
 
-use super::{DoneBound, InputBound};
+use records::{DonePlace, InputPlace};
 
-pub(crate) fn input_start(b: InputBound) -> usize
-    ensures { result ≡ start_of (input_number b) }
-{
-    match b {
-        InputBound::Open => 0,
-        InputBound::At(p) => p.0,
+// A place of a list. Places of *done* and of the input are counted apart, but bounds of both are read alike.
+pub(crate) trait Place: Copy {
+    ghost number: { Self → ℕ };
+
+    fn number(self) -> usize
+        ensures { result ≡ number self };
+}
+
+impl Place for InputPlace {
+    ghost number = { λ p. p.0 };
+
+    fn number(self) -> usize {
+        self.0
     }
 }
 
-pub(crate) fn done_start(b: DoneBound) -> usize
-    ensures { result ≡ start_of (done_number b) }
-{
-    match b {
-        DoneBound::Open => 0,
-        DoneBound::At(p) => p.0,
+impl Place for DonePlace {
+    ghost number = { λ p. p.0 };
+
+    fn number(self) -> usize {
+        self.0
     }
 }
 
-fn lesser_place(a: usize, b: usize) -> usize
-    ensures { result ≡ min a b }
+#[tactic(auto, unfolding(crate::specs::Flags::start_of, crate::specs::Flags::place_number))]
+pub(crate) fn start<P: Place>(bound: Option<P>) -> usize
+    ensures { result ≡ start_of (place_number P.number bound) }
 {
-    if a < b { a } else { b }
-}
-
-pub(crate) fn input_end(b: InputBound, len: usize) -> usize
-    ensures { result ≡ end_of (input_number b) len }
-{
-    match b {
-        InputBound::Open => len,
-        InputBound::At(p) => lesser_place(p.0, len),
+    match bound {
+        None => 0,
+        Some(p) => p.number(),
     }
 }
 
-// Whether an end lies over 255 places behind a start, modulo 2^64. The start may be a place of *done*.
-fn ends_too_far(start: usize, end: InputBound) -> bool
-    ensures { result ≡ too_far (some start) (input_number end) }
+#[tactic(auto, unfolding(crate::specs::Flags::end_of, crate::specs::Flags::place_number))]
+pub(crate) fn end<P: Place>(bound: Option<P>, len: usize) -> usize
+    ensures { result ≡ end_of (place_number P.number bound) len }
 {
-    match end {
-        InputBound::Open => false,
-        InputBound::At(p) => 255 < std::num::wrapping_sub_usize(p.0, start),
+    match bound {
+        None => len,
+        Some(p) => std::cmp::min(p.number(), len),
     }
 }
 
-pub(crate) fn input_too_far(start: InputBound, end: InputBound) -> bool
-    ensures { result ≡ too_far (input_number start) (input_number end) }
+// Whether an end lies over 255 places behind a start, modulo 2^64. The start may be a place of *done*, the end one of the input.
+#[tactic(auto, unfolding(crate::specs::Flags::too_far, crate::specs::Flags::place_number))]
+pub(crate) fn too_far<S: Place, E: Place>(start: Option<S>, end: Option<E>) -> bool
+    ensures { result ≡ too_far (place_number S.number start) (place_number E.number end) }
 {
     match start {
-        InputBound::Open => false,
-        InputBound::At(p) => ends_too_far(p.0, end),
-    }
-}
-
-pub(crate) fn done_too_far(start: DoneBound, end: InputBound) -> bool
-    ensures { result ≡ too_far (done_number start) (input_number end) }
-{
-    match start {
-        DoneBound::Open => false,
-        DoneBound::At(p) => ends_too_far(p.0, end),
+        None => false,
+        Some(s) => match end {
+            None => false,
+            Some(e) => 255 < e.number().wrapping_sub(s.number()),
+        },
     }
 }

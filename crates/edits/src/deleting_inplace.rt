@@ -1,17 +1,21 @@
 // Deletion of the glyphs with a key: call 21. The glyphs kept so far are an output in the run, and their positions lie
 // in the other slice, in the same places.
+#![tactic(auto, using(crate::proofs::Siftings::moving_down, crate::proofs::SiftedRuns::sifting))]
+
 ghost use Rattle.std.specs.Prelude.{◌≡◌, ◌<◌, length, if◌then◌else◌, slice_index_or, slice_set};
 ghost use Rattle.records.specs.Glyphs.{zero_position};
 ghost use Rattle.records.specs.View.{positions_in};
 ghost use Rattle.lists.specs.Contract.{Meets};
-ghost use Rattle.lists.specs.inner.Verdicts.{Sided};
+ghost use Rattle.lists.specs.Account.{read_level};
+ghost use Rattle.edits.specs.Merging.{clusters_merge};
 ghost use Rattle.edits.specs.Deleting.{delete_glyphs_inplace};
-ghost use Rattle.edits.specs.inner.Deletes.{MoveRoom, MovesGlyph, Sifts};
+ghost use Rattle.edits.specs.inner.Deletes.{kept_with, MoveRoom, MovesGlyph, Sifts};
 ghost use Rattle.edits.specs.inner.Wholes.{RunRoom};
 
-use super::{Kept, deleting, merge_acts, whole};
-use lists::{Buffer, Reply, state, verdicts};
-use records::Limits;
+use super::{Kept, Way, deleting, merge_acts, merges, whole};
+use lists::swapping::Outcome;
+use lists::{Buffer, Lists, Reply, Verdict, state, swapping};
+use records::{Key, Limits};
 
 // A position goes to another place, where there are positions.
 fn move_position(ws: &mut [u32], positions: bool, from: usize, to: usize)
@@ -42,31 +46,32 @@ fn sift(
     run: &mut [u32],
     other: &mut [u32],
     positions: bool,
-    level: u32,
-    wants: u32,
+    way: Way,
     limits: Limits,
     len: usize,
-    slot: u32,
-    mask: u32,
+    key: Key,
     value: u32,
 ) -> Kept
-    requires { RunRoom len run.old other.old }
-    ensures { Sifts slot mask value positions level wants len limits result run.old other.old run.new other.new }
+    requires way { way.merges ≡ clusters_merge (read_level way.level) }
+    requires room { RunRoom len run.old other.old }
+    ensures { Sifts key.slot key.mask value positions way.level way.wants len limits result run.old other.old run.new other.new }
 {
     let mut left = limits;
     let mut out_len = 0;
-    let mut idx = 0;
-    while idx < len {
-        if records::glyphs::key_at(run, idx, slot, mask) == value {
-            let merged = deleting::keep_cluster(
-                run, other, false, false, level, wants, idx, len, out_len,
-            );
+    for idx in 0..len {
+        if records::glyphs::key_at(run, idx, key.slot, key.mask) == value {
+            let lists = Lists {
+                idx: idx,
+                len: len,
+                out_len: out_len,
+                separate: false,
+            };
+            let merged = deleting::keep_cluster(run, other, lists, way);
             left = merge_acts::merge_limits(left, merged, 2);
         } else {
             move_glyph(run, other, positions, idx, out_len);
-            out_len = out_len + 1;
+            out_len += 1;
         }
-        idx = idx + 1;
     }
     Kept {
         len: out_len,
@@ -74,31 +79,13 @@ fn sift(
     }
 }
 
-// The same, wherever the run lies.
-fn sift_by(
-    first: &mut [u32],
-    second: &mut [u32],
-    swapped: bool,
-    positions: bool,
-    level: u32,
-    wants: u32,
-    limits: Limits,
-    len: usize,
-    slot: u32,
-    mask: u32,
-    value: u32,
-) -> Kept
-    requires { RunRoom len first.old second.old }
-    ensures { Sided swapped (Sifts slot mask value positions level wants len limits result) first.old second.old first.new second.new }
-{
-    if swapped {
-        return sift(
-            second, first, positions, level, wants, limits, len, slot, mask, value,
-        );
+impl Outcome for Kept {
+    ghost amends = { λ k v. kept_with k v };
+
+    fn amend(self, v: &mut Verdict) {
+        v.len = self.len;
+        v.limits = self.limits;
     }
-    sift(
-        first, second, positions, level, wants, limits, len, slot, mask, value,
-    )
 }
 
 // 21
@@ -114,15 +101,21 @@ pub fn delete_glyphs_inplace(
 {
     let phase = b.phase;
     let positions = state::have_positions(phase);
-    let mut v = whole::keyed_verdict(b, first, second, slot);
-    if v.acts {
-        let kept = sift_by(
-            first, second, b.swapped, positions, b.level, b.wants, b.limits, b.len.0, slot, mask,
-            value,
-        );
-        let left = kept.limits;
-        v.len = kept.len;
-        v.limits = left;
-    }
-    verdicts::settled(b, v)
+    let way = Way {
+        merges: merges::clusters_merge(b.level),
+        level: b.level,
+        wants: b.wants,
+    };
+    let key = Key {
+        slot: slot,
+        mask: mask,
+    };
+    let decision = whole::keyed_verdict(b, first, second, slot);
+    swapping::carry_out(
+        b,
+        decision,
+        first,
+        second,
+        move |run, other| sift(run, other, positions, way, b.limits, b.len.0, key, value),
+    )
 }

@@ -3,12 +3,11 @@ ghost use Rattle.std.specs.Prelude.{◌≡◌, true, false, not, ◌||◌, ltb, 
 ghost use Rattle.lists.specs.Contract.{gone_of};
 ghost use Rattle.lists.specs.Contract.{Meets};
 ghost use Rattle.edits.specs.Flags.{wants_concat, wants_tatweel, plain_form, outbuffer_form};
-ghost use Rattle.edits.specs.Flags.{input_bound, done_bound};
-ghost use Rattle.edits.specs.inner.Marks.{FlagsInput, FlagsOut};
+ghost use Rattle.edits.specs.inner.Marks.{FlagsInput, FlagsOut, PlainMeets, OutMeets};
 
-use super::{DoneBound, InputBound, bounds, flags, marking, merges};
-use lists::{Buffer, Reply, Verdict, state, verdicts};
-use records::{Answer, Refusal};
+use super::{bounds, flags, lists_at, marking, merges};
+use lists::{Buffer, Decision, Reply, state, swapping, verdicts};
+use records::{DonePlace, InputPlace, Refusal};
 
 fn wants_concat(wants: u32) -> bool
     ensures { result ≡ wants_concat wants }
@@ -16,6 +15,7 @@ fn wants_concat(wants: u32) -> bool
     wants % 2 == 1
 }
 
+#[tactic(auto, using(crate::proofs::FlagCalls::flag_tests))]
 fn tatweel_bits(wants: u32) -> u32
     ensures { result ≡ (if wants_tatweel wants then 4 else 3) }
 {
@@ -26,209 +26,196 @@ fn tatweel_bits(wants: u32) -> u32
 fn idles(concat: bool, wants: u32, far: bool) -> bool
     ensures { result ≡ (not (not concat || wants_concat wants) || far) }
 {
-    if concat {
-        if wants_concat(wants) {
-            return far;
-        }
-        return true;
-    }
-    far
+    concat && !wants_concat(wants) || far
 }
 
 fn outside_flags(b: Buffer, s: usize, e: usize) -> bool
     ensures { result ≡ (nat_lt e s || nat_lt s (gone_of b)) }
 {
-    if e < s {
-        return true;
-    }
-    s < merges::gone(b)
+    e < s || s < merges::gone(b)
 }
 
 fn outside_out(b: Buffer, s: usize, e: usize) -> bool
     ensures { result ≡ (ltb b.out_len.0 s || nat_lt e b.idx.0) }
 {
-    if b.out_len.0 < s {
-        return true;
-    }
-    e < b.idx.0
+    b.out_len.0 < s || e < b.idx.0
 }
 
 // 15 to 17
+#[inline(always)]
 fn plain_verdict(
     b: Buffer,
     first: &[u32],
     second: &[u32],
     concat: bool,
-    start: InputBound,
-    end: InputBound,
-) -> Verdict
+    start: Option<InputPlace>,
+    end: Option<InputPlace>,
+) -> Decision
     ensures { FlagsInput concat start end b first.now second.now result }
 {
-    if state::is_sound(b, first, second) {
-        let phase = b.phase;
-        if state::is_spoiled(phase) {
-            return verdicts::refused(b, Refusal::WrongPhase);
-        }
-        if idles(concat, b.wants, bounds::input_too_far(start, end)) {
-            return verdicts::verdict(b, false, Answer::Done);
-        }
-        let s = bounds::input_start(start);
-        let e = bounds::input_end(end, b.len.0);
-        if outside_flags(b, s, e) {
-            return verdicts::refused(b, Refusal::OutOfRange);
-        }
-        return verdicts::verdict(b, true, Answer::Done);
+    state::sound(b, first, second)?;
+    let phase = b.phase;
+    if state::is_spoiled(phase) {
+        return Err(Refusal::WrongPhase);
     }
-    verdicts::refused(b, Refusal::Contradiction)
+    if idles(concat, b.wants, bounds::too_far(start, end)) {
+        return verdicts::leaves(b, false, None);
+    }
+    let s = bounds::start(start);
+    let e = bounds::end(end, b.len.0);
+    if outside_flags(b, s, e) {
+        return Err(Refusal::OutOfRange);
+    }
+    verdicts::leaves(b, true, None)
 }
 
 // 18 and 19
+#[inline(always)]
 fn out_verdict(
     b: Buffer,
     first: &[u32],
     second: &[u32],
     concat: bool,
-    start: DoneBound,
-    end: InputBound,
-) -> Verdict
+    start: Option<DonePlace>,
+    end: Option<InputPlace>,
+) -> Decision
     ensures { FlagsOut concat start end b first.now second.now result }
 {
-    if state::is_sound(b, first, second) {
-        let phase = b.phase;
-        if state::have_output(phase) {
-            if idles(concat, b.wants, bounds::done_too_far(start, end)) {
-                return verdicts::verdict(b, false, Answer::Done);
-            }
-            let s = bounds::done_start(start);
-            let e = bounds::input_end(end, b.len.0);
-            if outside_out(b, s, e) {
-                return verdicts::refused(b, Refusal::OutOfRange);
-            }
-            return verdicts::verdict(b, true, Answer::Done);
+    state::sound(b, first, second)?;
+    let phase = b.phase;
+    if state::have_output(phase) {
+        if idles(concat, b.wants, bounds::too_far(start, end)) {
+            return verdicts::leaves(b, false, None);
         }
-        return verdicts::refused(b, Refusal::WrongPhase);
+        let s = bounds::start(start);
+        let e = bounds::end(end, b.len.0);
+        if outside_out(b, s, e) {
+            return Err(Refusal::OutOfRange);
+        }
+        return verdicts::leaves(b, true, None);
     }
-    verdicts::refused(b, Refusal::Contradiction)
+    Err(Refusal::WrongPhase)
+}
+
+// A plain form: the concat form marks every glyph, the others the interior.
+#[inline(always)]
+fn flag_plain(
+    b: Buffer,
+    first: &mut [u32],
+    second: &mut [u32],
+    concat: bool,
+    bits: u32,
+    start: Option<InputPlace>,
+    end: Option<InputPlace>,
+) -> Reply
+    ensures { PlainMeets concat bits start end b first.old second.old result first.new second.new }
+{
+    let decision = plain_verdict(b, first, second, concat, start, end);
+    let s = bounds::start(start);
+    let e = bounds::end(end, b.len.0);
+    let level = flags::search_level(b.level, b.wants);
+    swapping::carry_out(
+        b,
+        decision,
+        first,
+        second,
+        |run, _other| marking::flag_run(run, !concat, level, bits, s, e),
+    )
+}
+
+// An outbuffer form, likewise.
+#[inline(always)]
+fn flag_outbuffer(
+    b: Buffer,
+    first: &mut [u32],
+    second: &mut [u32],
+    concat: bool,
+    bits: u32,
+    start: Option<DonePlace>,
+    end: Option<InputPlace>,
+) -> Reply
+    ensures { OutMeets concat bits start end b first.old second.old result first.new second.new }
+{
+    let decision = out_verdict(b, first, second, concat, start, end);
+    let s = bounds::start(start);
+    let e = bounds::end(end, b.len.0);
+    let level = flags::search_level(b.level, b.wants);
+    let at = lists_at::lists_of(b);
+    swapping::carry_out(
+        b,
+        decision,
+        first,
+        second,
+        |run, other| marking::flag_out(run, other, at, !concat, level, bits, s, e),
+    )
 }
 
 // 15
+#[inline(always)]
 pub fn unsafe_to_break(
     b: Buffer,
     first: &mut [u32],
     second: &mut [u32],
-    start: InputBound,
-    end: InputBound,
+    start: Option<InputPlace>,
+    end: Option<InputPlace>,
 ) -> Reply
-    ensures { Meets (λ capacity a. plain_form true true 3 (input_bound start) (input_bound end) a) b first.old second.old result first.new second.new }
+    ensures { Meets (λ capacity a. plain_form true true 3 start end a) b first.old second.old result first.new second.new }
 {
-    let v = plain_verdict(b, first, second, false, start, end);
-    if v.acts {
-        let s = bounds::input_start(start);
-        let e = bounds::input_end(end, b.len.0);
-        let level = flags::search_level(b.level, b.wants);
-        marking::flag_by(first, second, b.swapped, true, level, 3, s, e);
-    }
-    verdicts::settled(b, v)
+    flag_plain(b, first, second, false, 3, start, end)
 }
 
 // 16
+#[inline(always)]
 pub fn unsafe_to_concat(
     b: Buffer,
     first: &mut [u32],
     second: &mut [u32],
-    start: InputBound,
-    end: InputBound,
+    start: Option<InputPlace>,
+    end: Option<InputPlace>,
 ) -> Reply
-    ensures { Meets (λ capacity a. plain_form false (wants_concat a.state.wants) 2 (input_bound start) (input_bound end) a) b first.old second.old result first.new second.new }
+    ensures { Meets (λ capacity a. plain_form false (wants_concat a.state.wants) 2 start end a) b first.old second.old result first.new second.new }
 {
-    let v = plain_verdict(b, first, second, true, start, end);
-    if v.acts {
-        let s = bounds::input_start(start);
-        let e = bounds::input_end(end, b.len.0);
-        marking::flag_by(first, second, b.swapped, false, b.level, 2, s, e);
-    }
-    verdicts::settled(b, v)
+    flag_plain(b, first, second, true, 2, start, end)
 }
 
 // 17. Unwanted, it is 15.
+#[inline(always)]
 pub fn safe_to_insert_tatweel(
     b: Buffer,
     first: &mut [u32],
     second: &mut [u32],
-    start: InputBound,
-    end: InputBound,
+    start: Option<InputPlace>,
+    end: Option<InputPlace>,
 ) -> Reply
-    ensures { Meets (λ capacity a. plain_form true true (if wants_tatweel a.state.wants then 4 else 3) (input_bound start) (input_bound end) a) b first.old second.old result first.new second.new }
+    ensures { Meets (λ capacity a. plain_form true true (if wants_tatweel a.state.wants then 4 else 3) start end a) b first.old second.old result first.new second.new }
 {
-    let v = plain_verdict(b, first, second, false, start, end);
-    if v.acts {
-        let s = bounds::input_start(start);
-        let e = bounds::input_end(end, b.len.0);
-        let bits = tatweel_bits(b.wants);
-        let level = flags::search_level(b.level, b.wants);
-        marking::flag_by(first, second, b.swapped, true, level, bits, s, e);
-    }
-    verdicts::settled(b, v)
+    flag_plain(b, first, second, false, tatweel_bits(b.wants), start, end)
 }
 
 // 18
+#[inline(always)]
 pub fn unsafe_to_break_from_outbuffer(
     b: Buffer,
     first: &mut [u32],
     second: &mut [u32],
-    start: DoneBound,
-    end: InputBound,
+    start: Option<DonePlace>,
+    end: Option<InputPlace>,
 ) -> Reply
-    ensures { Meets (λ capacity a. outbuffer_form true true 3 (done_bound start) (input_bound end) a) b first.old second.old result first.new second.new }
+    ensures { Meets (λ capacity a. outbuffer_form true true 3 start end a) b first.old second.old result first.new second.new }
 {
-    let v = out_verdict(b, first, second, false, start, end);
-    if v.acts {
-        let s = bounds::done_start(start);
-        let e = bounds::input_end(end, b.len.0);
-        marking::flag_out_by(
-            first,
-            second,
-            b.swapped,
-            b.have_separate_output,
-            true,
-            b.level,
-            b.wants,
-            b.idx.0,
-            b.out_len.0,
-            s,
-            e,
-        );
-    }
-    verdicts::settled(b, v)
+    flag_outbuffer(b, first, second, false, 3, start, end)
 }
 
 // 19
+#[inline(always)]
 pub fn unsafe_to_concat_from_outbuffer(
     b: Buffer,
     first: &mut [u32],
     second: &mut [u32],
-    start: DoneBound,
-    end: InputBound,
+    start: Option<DonePlace>,
+    end: Option<InputPlace>,
 ) -> Reply
-    ensures { Meets (λ capacity a. outbuffer_form false (wants_concat a.state.wants) 2 (done_bound start) (input_bound end) a) b first.old second.old result first.new second.new }
+    ensures { Meets (λ capacity a. outbuffer_form false (wants_concat a.state.wants) 2 start end a) b first.old second.old result first.new second.new }
 {
-    let v = out_verdict(b, first, second, true, start, end);
-    if v.acts {
-        let s = bounds::done_start(start);
-        let e = bounds::input_end(end, b.len.0);
-        marking::flag_out_by(
-            first,
-            second,
-            b.swapped,
-            b.have_separate_output,
-            false,
-            b.level,
-            b.wants,
-            b.idx.0,
-            b.out_len.0,
-            s,
-            e,
-        );
-    }
-    verdicts::settled(b, v)
+    flag_outbuffer(b, first, second, true, 2, start, end)
 }

@@ -1,5 +1,5 @@
 // Flags over ranges of glyphs. A range ends before its end.
-ghost use Rattle.std.specs.Prelude.{◌≡◌, ◌+◌, ◌-◌, ◌<◌, ◌≤◌, min, ◌&&◌, ◌||◌, length, if◌then◌else◌};
+ghost use Rattle.std.specs.Prelude.{◌≡◌, ◌+◌, ◌-◌, ◌<◌, ◌≤◌, ◌&&◌, ◌||◌, length, if◌then◌else◌};
 ghost use Rattle.std.proofs.Math.Seq.{slice};
 ghost use Rattle.records.specs.Ranges.{clusters, heads, is, isnt, tails};
 ghost use Rattle.records.specs.View.{glyphs};
@@ -9,6 +9,7 @@ ghost use Rattle.edits.specs.Flags.{interior, search_level, sought, seeks_all};
 use lists::state;
 
 // The level whose way of searching and marking holds: bit 2 of wants gives level 3 that of level 2.
+#[tactic(auto, using(crate::proofs::Searching::search_tests))]
 pub(crate) fn search_level(level: u32, wants: u32) -> u32
     ensures { read_level result ≡ search_level (read_level level) wants }
 {
@@ -27,6 +28,8 @@ fn seeks_all(level: u32) -> bool
     state::read_level(level) == 2
 }
 
+// Whether every glyph not of the cluster is marked. In branches: `||` was slower by a tenth where many short ranges are flagged.
+#[tactic(auto, using(crate::proofs::FlagLaws::flag_laws))]
 fn marks_all(level: u32, first: u32, last: u32, cluster: u32) -> bool
     ensures { result ≡ (seeks_all (read_level level) || (isnt cluster first && isnt cluster last)) }
 {
@@ -40,6 +43,7 @@ fn marks_all(level: u32, first: u32, last: u32, cluster: u32) -> bool
 }
 
 // Where one end of a range has the cluster: what is marked then starts behind the last of it, if the first has it, and ends before the first of it otherwise.
+#[tactic(auto, using(crate::proofs::FlagLaws::flag_laws))]
 fn marked_from(ws: &[u32], first: u32, cluster: u32, s: usize, e: usize) -> usize
     requires { e ≤ length (glyphs ws.now) }
     ensures { result ≡ (if is cluster first then e - tails (isnt cluster) (slice s e (clusters (glyphs ws.now))) else s) }
@@ -50,6 +54,7 @@ fn marked_from(ws: &[u32], first: u32, cluster: u32, s: usize, e: usize) -> usiz
     s
 }
 
+#[tactic(auto, using(crate::proofs::FlagLaws::flag_laws))]
 fn marked_to(ws: &[u32], first: u32, cluster: u32, s: usize, e: usize) -> usize
     requires { (s ≤ e) × (e ≤ length (glyphs ws.now)) }
     ensures { (result ≡ (if is cluster first then e else s + heads (isnt cluster) (slice s e (clusters (glyphs ws.now))))) × (result ≤ e) }
@@ -61,6 +66,7 @@ fn marked_to(ws: &[u32], first: u32, cluster: u32, s: usize, e: usize) -> usize
 }
 
 // The interior form of a flag over a range, for a cluster that was sought.
+#[tactic(auto, using(crate::proofs::FlagLaws::flag_laws))]
 pub(crate) fn mark_interior(ws: &mut [u32], level: u32, cluster: u32, bits: u32, s: usize, e: usize)
     requires { (s < e) × (e ≤ length (glyphs ws.old)) }
     ensures { glyphs ws.new ≡ interior (read_level level) cluster bits s e (glyphs ws.old) }
@@ -76,13 +82,8 @@ pub(crate) fn mark_interior(ws: &mut [u32], level: u32, cluster: u32, bits: u32,
     }
 }
 
-pub(crate) fn lesser(a: u32, b: u32) -> u32
-    ensures { result ≡ min a b }
-{
-    if a < b { a } else { b }
-}
-
 // The cluster that a flag form seeks in a range.
+#[tactic(auto, using(crate::proofs::FlagLaws::flag_laws))]
 pub(crate) fn sought_cluster(ws: &[u32], level: u32, s: usize, e: usize) -> u32
     requires { (s < e) × (e ≤ length (glyphs ws.now)) }
     ensures { result ≡ sought (read_level level) (slice s e (clusters (glyphs ws.now))) }
@@ -91,10 +92,11 @@ pub(crate) fn sought_cluster(ws: &[u32], level: u32, s: usize, e: usize) -> u32
         return lists::ranges::least_cluster(ws, s, e);
     }
     let first = records::glyphs::cluster_at(ws, s);
-    lesser(first, records::glyphs::cluster_at(ws, e - 1))
+    std::cmp::min(first, records::glyphs::cluster_at(ws, e - 1))
 }
 
 // The interior form of a flag over a range, for the cluster that it seeks there.
+#[tactic(auto, using(crate::proofs::FlagLaws::flag_laws))]
 pub(crate) fn flag_range(ws: &mut [u32], level: u32, bits: u32, s: usize, e: usize)
     requires { (s < e) × (e ≤ length (glyphs ws.old)) }
     ensures { glyphs ws.new ≡ interior (read_level level) (sought (read_level level) (slice s e (clusters (glyphs ws.old)))) bits s e (glyphs ws.old) }

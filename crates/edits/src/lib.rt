@@ -2,7 +2,7 @@
 
 #![tactic(auto)]
 
-use records::{DonePlace, InputPlace, Limits};
+use records::Limits;
 
 mod bounds;
 pub mod deleting;
@@ -13,6 +13,7 @@ pub mod flagging;
 mod flags;
 pub mod grouping;
 pub mod lent;
+mod lists_at;
 mod marking;
 mod merge_acts;
 mod merge_verdicts;
@@ -51,23 +52,17 @@ pub struct OutMerge {
     pub head: bool,
 }
 
+// Whether a range merges, and else by which level and wants its flags are sought.
+#[derive(Clone, Copy)]
+pub struct Way {
+    pub merges: bool,
+    pub level: u32,
+    pub wants: u32,
+}
+
 // What a deletion in place leaves: how many glyphs, and what of the limits.
 #[derive(Clone, Copy)]
 pub struct Kept {
     pub len: usize,
     pub limits: Limits,
-}
-
-// A bound of a flag form in the input.
-#[derive(Clone, Copy)]
-pub enum InputBound {
-    Open,
-    At(InputPlace),
-}
-
-// A bound of a flag form in *done*.
-#[derive(Clone, Copy)]
-pub enum DoneBound {
-    Open,
-    At(DonePlace),
 }

@@ -1,10 +1,12 @@
-// Merges by places: the glyphs of a merge, in whichever slice they lie, and what it costs.
+// Merges by places: the glyphs of a merge, and what it costs.
+#![tactic(auto, using(crate::proofs::MergeDecisions::merge_acting, crate::proofs::OutCalls::out_merge_acting))]
+
 ghost use Rattle.std.specs.Prelude.{◌≡◌};
-ghost use Rattle.lists.specs.inner.Verdicts.{Sided};
 ghost use Rattle.edits.specs.inner.Charges.{MergesRun};
 ghost use Rattle.edits.specs.inner.MergeActs.{merge_limits, MergeRoom, Merges, OutMergeRoom, OutMerges};
 
-use super::{flags, merging};
+use super::{Way, flags, merging};
+use lists::Lists;
 use records::Limits;
 
 // What a merge of n glyphs costs: nothing where it does not merge.
@@ -13,116 +15,90 @@ pub(crate) fn merge_limits(l: Limits, merges: bool, n: usize) -> Limits
 {
     if merges {
         if 2 <= n {
-            return records::counters::pay(l, n);
+            return l.pay(n);
         }
     }
     l
 }
 
-// A merge of the places s to e of the run, or the flags that stand for it, wherever the run lies.
+// A merge of the places s to e of the run, or the flags that stand for it.
 pub(crate) fn merge_by(
-    first: &mut [u32],
-    second: &mut [u32],
-    swapped: bool,
-    apart: bool,
-    merges: bool,
-    level: u32,
-    wants: u32,
-    idx: usize,
-    len: usize,
-    out_len: usize,
+    run: &mut [u32],
+    other: &mut [u32],
+    lists: Lists,
+    way: Way,
     s: usize,
     e: usize,
 )
-    requires { MergeRoom len out_len s e first.old second.old }
-    ensures { Sided swapped (Merges apart merges level wants idx len out_len s e) first.old second.old first.new second.new }
+    requires { MergeRoom lists.len lists.out_len s e run.old other.old }
+    ensures { Merges lists.separate way.merges way.level way.wants lists.idx lists.len lists.out_len s e run.old other.old run.new other.new }
 {
     let n = e - s;
     if n < 2 {
         return;
     }
-    if merges {
-        if apart {
-            if swapped {
-                merging::merge_apart(second, first, idx, len, out_len, s, e);
-                return;
-            }
-            merging::merge_apart(first, second, idx, len, out_len, s, e);
+    if way.merges {
+        if lists.separate {
+            merging::merge_apart(run, other, lists, s, e);
             return;
         }
-        if swapped {
-            merging::merge_within(second, idx, len, out_len, s, e);
-            return;
-        }
-        merging::merge_within(first, idx, len, out_len, s, e);
+        merging::merge_within(run, lists, s, e);
         return;
     }
     if 255 < n {
         return;
     }
-    let search = flags::search_level(level, wants);
-    if swapped {
-        flags::flag_range(second, search, 3, s, e);
-        return;
-    }
-    flags::flag_range(first, search, 3, s, e);
+    let search = flags::search_level(way.level, way.wants);
+    flags::flag_range(run, search, 3, s, e);
 }
 
 // A merge of the places s to e of a whole run of len glyphs.
 pub(crate) fn merge_run(
     run: &mut [u32],
     other: &mut [u32],
-    merges: bool,
-    level: u32,
-    wants: u32,
+    way: Way,
     len: usize,
     s: usize,
     e: usize,
 )
     requires { MergeRoom len 0 s e run.old other.old }
-    ensures { MergesRun merges level wants len s e run.old other.old run.new other.new }
+    ensures { MergesRun way.merges way.level way.wants len s e run.old other.old run.new other.new }
 {
-    merge_by(
-        run, other, false, false, merges, level, wants, 0, len, 0, s, e,
-    );
+    // Of one glyph nothing is handed on: most graphemes are one.
+    if e - s < 2 {
+        return;
+    }
+    let lists = Lists {
+        idx: 0,
+        len: len,
+        out_len: 0,
+        separate: false,
+    };
+    merge_by(run, other, lists, way, s, e);
 }
 
-// A merge of the places s to e of the output, which lies apart from the run where it is `separate`.
+// A merge of the places s to e of the output.
 pub(crate) fn merge_out_by(
-    first: &mut [u32],
-    second: &mut [u32],
-    swapped: bool,
-    separate: bool,
+    run: &mut [u32],
+    other: &mut [u32],
+    lists: Lists,
     merges: bool,
-    idx: usize,
-    len: usize,
-    out_len: usize,
     s: usize,
     e: usize,
 )
-    requires { OutMergeRoom idx len out_len s e first.old second.old }
-    ensures { Sided swapped (OutMerges separate merges idx len out_len s e) first.old second.old first.new second.new }
+    requires { OutMergeRoom lists.idx lists.len lists.out_len s e run.old other.old }
+    ensures { OutMerges lists.separate merges lists.idx lists.len lists.out_len s e run.old other.old run.new other.new }
 {
     if e - s < 2 {
         return;
     }
     if merges {
-        if separate {
-            if swapped {
-                let p = merging::plan_out(first, out_len, s, e);
-                merging::merge_out_apart(second, first, idx, len, p);
-                return;
-            }
-            let p = merging::plan_out(second, out_len, s, e);
-            merging::merge_out_apart(first, second, idx, len, p);
+        if lists.separate {
+            let p = merging::plan_out(other, lists.out_len, s, e);
+            merging::merge_out_apart(run, other, lists.idx, lists.len, p);
             return;
         }
-        if swapped {
-            let p = merging::plan_out(second, out_len, s, e);
-            merging::merge_out_within(second, idx, len, p);
-            return;
-        }
-        let p = merging::plan_out(first, out_len, s, e);
-        merging::merge_out_within(first, idx, len, p);
+        let p = merging::plan_out(run, lists.out_len, s, e);
+        merging::merge_out_within(run, lists.idx, lists.len, p);
     }
 }

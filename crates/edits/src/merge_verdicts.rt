@@ -1,22 +1,26 @@
 // What merges come to: from the state, the lengths of the slices and the operands. No glyph is read.
+#![tactic(auto, using(crate::proofs::MergeDecisions::merge_calls, crate::proofs::MergeDecisions::merge_acting, crate::proofs::OutCalls::out_merge_calls))]
+
 ghost use Rattle.std.specs.Prelude.{true};
 ghost use Rattle.lists.specs.inner.States.{with_limits_of};
 ghost use Rattle.lists.specs.inner.Verdicts.{Leaves};
 ghost use Rattle.edits.specs.inner.MergeActs.{merge_limits, MergesInput, MergesDone};
 
 use super::{merge_acts, merges};
-use lists::{Buffer, Verdict, state, verdicts};
-use records::{Answer, DonePlace, InputPlace, Refusal};
+use lists::{Buffer, Decision, state, verdicts};
+use records::{DonePlace, InputPlace, Refusal};
 
 // The verdict on a merge of n glyphs that goes ahead.
-fn goes_ahead(b: Buffer, merges: bool, n: usize) -> Verdict
-    ensures { Leaves (with_limits_of (merge_limits merges n b.limits) b) true Answer.Done result }
+#[inline(always)]
+fn goes_ahead(b: Buffer, merges: bool, n: usize) -> Decision
+    ensures { Leaves (with_limits_of (merge_limits merges n b.limits) b) true None result }
 {
     let limits = merge_acts::merge_limits(b.limits, merges, n);
-    verdicts::verdict(state::with_limits(b, limits), true, Answer::Done)
+    verdicts::leaves(state::with_limits(b, limits), true, None)
 }
 
 // 11 and 13, which merge at some levels.
+#[inline(always)]
 pub(crate) fn merge_verdict(
     b: Buffer,
     first: &[u32],
@@ -24,23 +28,22 @@ pub(crate) fn merge_verdict(
     merges: bool,
     start: InputPlace,
     end: InputPlace,
-) -> Verdict
+) -> Decision
     ensures { MergesInput merges start end b first.now second.now result }
 {
-    if state::is_sound(b, first, second) {
-        let phase = b.phase;
-        if state::is_spoiled(phase) {
-            return verdicts::refused(b, Refusal::WrongPhase);
-        }
-        if merges::outside_input(b, start.0, end.0) {
-            return verdicts::refused(b, Refusal::OutOfRange);
-        }
-        return goes_ahead(b, merges, end.0 - start.0);
+    state::sound(b, first, second)?;
+    let phase = b.phase;
+    if state::is_spoiled(phase) {
+        return Err(Refusal::WrongPhase);
     }
-    verdicts::refused(b, Refusal::Contradiction)
+    if merges::outside_input(b, start.0, end.0) {
+        return Err(Refusal::OutOfRange);
+    }
+    goes_ahead(b, merges, end.0 - start.0)
 }
 
 // 12 and 14
+#[inline(always)]
 pub(crate) fn merge_out_verdict(
     b: Buffer,
     first: &[u32],
@@ -48,21 +51,19 @@ pub(crate) fn merge_out_verdict(
     merges: bool,
     start: DonePlace,
     end: DonePlace,
-) -> Verdict
+) -> Decision
     ensures { MergesDone merges start end b first.now second.now result }
 {
-    if state::is_sound(b, first, second) {
-        let phase = b.phase;
-        if state::have_output(phase) {
-            if end.0 < start.0 {
-                return verdicts::refused(b, Refusal::OutOfRange);
-            }
-            if b.out_len.0 < end.0 {
-                return verdicts::refused(b, Refusal::OutOfRange);
-            }
-            return goes_ahead(b, merges, end.0 - start.0);
+    state::sound(b, first, second)?;
+    let phase = b.phase;
+    if state::have_output(phase) {
+        if end.0 < start.0 {
+            return Err(Refusal::OutOfRange);
         }
-        return verdicts::refused(b, Refusal::WrongPhase);
+        if b.out_len.0 < end.0 {
+            return Err(Refusal::OutOfRange);
+        }
+        return goes_ahead(b, merges, end.0 - start.0);
     }
-    verdicts::refused(b, Refusal::Contradiction)
+    Err(Refusal::WrongPhase)
 }

@@ -1,13 +1,15 @@
 // Merging: calls 11 to 14.
+#![tactic(auto, using(crate::proofs::MergeCalls::merge_tests))]
+
 ghost use Rattle.std.specs.Prelude.{◌≡◌, ◌||◌, nat_lt};
 ghost use Rattle.lists.specs.Account.{read_level};
 ghost use Rattle.lists.specs.Contract.{gone_of};
 ghost use Rattle.lists.specs.Contract.{Meets};
 ghost use Rattle.edits.specs.Merging.{merge_input, merge_done, clusters_merge, graphemes_merge};
-ghost use Rattle.edits.specs.inner.MergeActs.{lies_apart};
+ghost use Rattle.edits.specs.inner.MergeActs.{lies_apart, MeetsInput, MeetsDone};
 
-use super::{merge_acts, merge_verdicts};
-use lists::{Buffer, Reply, state, verdicts};
+use super::{Way, merge_acts, merge_verdicts};
+use lists::{Buffer, Lists, Reply, state, swapping};
 use records::{DonePlace, InputPlace, Phase};
 
 // Whether there is an output and the other slice holds it.
@@ -15,10 +17,7 @@ pub(crate) fn lies_apart(b: Buffer) -> bool
     ensures { result ≡ lies_apart b }
 {
     let phase = b.phase;
-    if state::have_output(phase) {
-        return b.have_separate_output;
-    }
-    false
+    state::have_output(phase) && b.have_separate_output
 }
 
 pub(crate) fn clusters_merge(level: u32) -> bool
@@ -31,10 +30,7 @@ pub(crate) fn graphemes_merge(level: u32) -> bool
     ensures { result ≡ graphemes_merge (read_level level) }
 {
     let known = state::read_level(level);
-    if known == 0 {
-        return true;
-    }
-    known == 3
+    known == 0 || known == 3
 }
 
 // How many glyphs of the input no list shows.
@@ -54,16 +50,72 @@ pub(crate) fn gone(b: Buffer) -> usize
 pub(crate) fn outside_input(b: Buffer, s: usize, e: usize) -> bool
     ensures { result ≡ (nat_lt e s || (nat_lt b.len.0 e || nat_lt s (gone_of b))) }
 {
-    if e < s {
-        return true;
-    }
-    if b.len.0 < e {
-        return true;
-    }
-    s < gone(b)
+    e < s || (b.len.0 < e || s < gone(b))
+}
+
+// 11 and 13, which merge at some levels.
+#[inline(always)]
+fn merge_input(
+    b: Buffer,
+    first: &mut [u32],
+    second: &mut [u32],
+    merges: bool,
+    start: InputPlace,
+    end: InputPlace,
+) -> Reply
+    ensures { MeetsInput merges start end b first.old second.old result first.new second.new }
+{
+    let lists = Lists {
+        idx: b.idx.0,
+        len: b.len.0,
+        out_len: b.out_len.0,
+        separate: lies_apart(b),
+    };
+    let way = Way {
+        merges: merges,
+        level: b.level,
+        wants: b.wants,
+    };
+    let decision = merge_verdicts::merge_verdict(b, first, second, merges, start, end);
+    swapping::carry_out(
+        b,
+        decision,
+        first,
+        second,
+        move |run, other| merge_acts::merge_by(run, other, lists, way, start.0, end.0),
+    )
+}
+
+// 12 and 14
+#[inline(always)]
+fn merge_done(
+    b: Buffer,
+    first: &mut [u32],
+    second: &mut [u32],
+    merges: bool,
+    start: DonePlace,
+    end: DonePlace,
+) -> Reply
+    ensures { MeetsDone merges start end b first.old second.old result first.new second.new }
+{
+    let lists = Lists {
+        idx: b.idx.0,
+        len: b.len.0,
+        out_len: b.out_len.0,
+        separate: b.have_separate_output,
+    };
+    let decision = merge_verdicts::merge_out_verdict(b, first, second, merges, start, end);
+    swapping::carry_out(
+        b,
+        decision,
+        first,
+        second,
+        move |run, other| merge_acts::merge_out_by(run, other, lists, merges, start.0, end.0),
+    )
 }
 
 // 11
+#[inline(always)]
 pub fn merge_clusters(
     b: Buffer,
     first: &mut [u32],
@@ -73,29 +125,11 @@ pub fn merge_clusters(
 ) -> Reply
     ensures { Meets (λ capacity a. merge_input (λ level. clusters_merge level) start end a) b first.old second.old result first.new second.new }
 {
-    let merges = clusters_merge(b.level);
-    let apart = lies_apart(b);
-    let v = merge_verdicts::merge_verdict(b, first, second, merges, start, end);
-    if v.acts {
-        merge_acts::merge_by(
-            first,
-            second,
-            b.swapped,
-            apart,
-            merges,
-            b.level,
-            b.wants,
-            b.idx.0,
-            b.len.0,
-            b.out_len.0,
-            start.0,
-            end.0,
-        );
-    }
-    verdicts::settled(b, v)
+    merge_input(b, first, second, clusters_merge(b.level), start, end)
 }
 
 // 13
+#[inline(always)]
 pub fn merge_grapheme_clusters(
     b: Buffer,
     first: &mut [u32],
@@ -105,29 +139,11 @@ pub fn merge_grapheme_clusters(
 ) -> Reply
     ensures { Meets (λ capacity a. merge_input (λ level. graphemes_merge level) start end a) b first.old second.old result first.new second.new }
 {
-    let merges = graphemes_merge(b.level);
-    let apart = lies_apart(b);
-    let v = merge_verdicts::merge_verdict(b, first, second, merges, start, end);
-    if v.acts {
-        merge_acts::merge_by(
-            first,
-            second,
-            b.swapped,
-            apart,
-            merges,
-            b.level,
-            b.wants,
-            b.idx.0,
-            b.len.0,
-            b.out_len.0,
-            start.0,
-            end.0,
-        );
-    }
-    verdicts::settled(b, v)
+    merge_input(b, first, second, graphemes_merge(b.level), start, end)
 }
 
 // 12
+#[inline(always)]
 pub fn merge_out_clusters(
     b: Buffer,
     first: &mut [u32],
@@ -137,26 +153,11 @@ pub fn merge_out_clusters(
 ) -> Reply
     ensures { Meets (λ capacity a. merge_done (λ level. clusters_merge level) start end a) b first.old second.old result first.new second.new }
 {
-    let merges = clusters_merge(b.level);
-    let v = merge_verdicts::merge_out_verdict(b, first, second, merges, start, end);
-    if v.acts {
-        merge_acts::merge_out_by(
-            first,
-            second,
-            b.swapped,
-            b.have_separate_output,
-            merges,
-            b.idx.0,
-            b.len.0,
-            b.out_len.0,
-            start.0,
-            end.0,
-        );
-    }
-    verdicts::settled(b, v)
+    merge_done(b, first, second, clusters_merge(b.level), start, end)
 }
 
 // 14
+#[inline(always)]
 pub fn merge_out_grapheme_clusters(
     b: Buffer,
     first: &mut [u32],
@@ -166,21 +167,5 @@ pub fn merge_out_grapheme_clusters(
 ) -> Reply
     ensures { Meets (λ capacity a. merge_done (λ level. graphemes_merge level) start end a) b first.old second.old result first.new second.new }
 {
-    let merges = graphemes_merge(b.level);
-    let v = merge_verdicts::merge_out_verdict(b, first, second, merges, start, end);
-    if v.acts {
-        merge_acts::merge_out_by(
-            first,
-            second,
-            b.swapped,
-            b.have_separate_output,
-            merges,
-            b.idx.0,
-            b.len.0,
-            b.out_len.0,
-            start.0,
-            end.0,
-        );
-    }
-    verdicts::settled(b, v)
+    merge_done(b, first, second, graphemes_merge(b.level), start, end)
 }

@@ -1,5 +1,7 @@
 // Merges of ranges of glyphs. A plan only reads; then the glyphs are written.
-ghost use Rattle.std.specs.Prelude.{◌≡◌, ◌<◌, ◌≤◌, ◌&&◌, length};
+#![tactic(auto, using(crate::proofs::MergePlans::planning, crate::proofs::MergeLaws::merging, crate::proofs::OutMerges::out_merging))]
+
+ghost use Rattle.std.specs.Prelude.{◌≡◌, ◌<◌, ◌≤◌, length};
 ghost use Rattle.std.proofs.Math.Seq.{slice};
 ghost use Rattle.records.specs.Ranges.{clusters};
 ghost use Rattle.records.specs.View.{glyphs};
@@ -8,6 +10,7 @@ ghost use Rattle.edits.specs.inner.Holding.{cut};
 ghost use Rattle.edits.specs.inner.Plans.{MergeRange, merge_plan, tail_start, Mergeable, WrittenApart, WrittenWithin, out_plan, head_end, OutWritable, WrittenOutApart, WrittenOutWithin};
 
 use super::{Merge, OutMerge};
+use lists::Lists;
 
 // ---- a merge in the input
 
@@ -35,12 +38,6 @@ fn merge_start(run: &[u32], idx: usize, len: usize, s: usize, e: usize, lowest: 
     }
 }
 
-fn both(a: bool, b: bool) -> bool
-    ensures { result ≡ a && b }
-{
-    if a { b } else { false }
-}
-
 fn plan_merge(run: &[u32], idx: usize, len: usize, s: usize, e: usize) -> Merge
     requires { (s < e) × (e ≤ len) × (len ≤ length (glyphs run.now)) }
     ensures { result ≡ merge_plan idx s e (cut len (glyphs run.now)) }
@@ -54,7 +51,7 @@ fn plan_merge(run: &[u32], idx: usize, len: usize, s: usize, e: usize) -> Merge
         leader: leader,
         from: from,
         to: to,
-        tail: both(from == idx, leader != lowest),
+        tail: from == idx && leader != lowest,
     }
 }
 
@@ -71,39 +68,24 @@ fn tail_start(ws: &[u32], out_len: usize, tail: bool, leader: u32) -> usize
 }
 
 // A merge where the output is held apart.
-pub(crate) fn merge_apart(
-    run: &mut [u32],
-    out: &mut [u32],
-    idx: usize,
-    len: usize,
-    out_len: usize,
-    s: usize,
-    e: usize,
-)
-    requires { Mergeable (glyphs run.old) (glyphs out.old) len out_len s e }
-    ensures { WrittenApart idx len out_len s e (glyphs run.old) (glyphs out.old) (glyphs run.new) (glyphs out.new) }
+pub(crate) fn merge_apart(run: &mut [u32], out: &mut [u32], lists: Lists, s: usize, e: usize)
+    requires { Mergeable (glyphs run.old) (glyphs out.old) lists.len lists.out_len s e }
+    ensures { WrittenApart lists.idx lists.len lists.out_len s e (glyphs run.old) (glyphs out.old) (glyphs run.new) (glyphs out.new) }
 {
-    let p = plan_merge(run, idx, len, s, e);
-    let at = tail_start(out, out_len, p.tail, p.leader);
-    lists::ranges::set_clusters(out, at, out_len, p.lowest, 0);
+    let p = plan_merge(run, lists.idx, lists.len, s, e);
+    let at = tail_start(out, lists.out_len, p.tail, p.leader);
+    lists::ranges::set_clusters(out, at, lists.out_len, p.lowest, 0);
     lists::ranges::set_clusters(run, p.from, p.to, p.lowest, 0);
 }
 
 // A merge where the output is held in the run itself, or where there is none.
-pub(crate) fn merge_within(
-    run: &mut [u32],
-    idx: usize,
-    len: usize,
-    out_len: usize,
-    s: usize,
-    e: usize,
-)
-    requires { Mergeable (glyphs run.old) (glyphs run.old) len out_len s e }
-    ensures { WrittenWithin idx len out_len s e (glyphs run.old) (glyphs run.new) }
+pub(crate) fn merge_within(run: &mut [u32], lists: Lists, s: usize, e: usize)
+    requires { Mergeable (glyphs run.old) (glyphs run.old) lists.len lists.out_len s e }
+    ensures { WrittenWithin lists.idx lists.len lists.out_len s e (glyphs run.old) (glyphs run.new) }
 {
-    let p = plan_merge(run, idx, len, s, e);
-    let at = tail_start(run, out_len, p.tail, p.leader);
-    lists::ranges::set_clusters(run, at, out_len, p.lowest, 0);
+    let p = plan_merge(run, lists.idx, lists.len, s, e);
+    let at = tail_start(run, lists.out_len, p.tail, p.leader);
+    lists::ranges::set_clusters(run, at, lists.out_len, p.lowest, 0);
     lists::ranges::set_clusters(run, p.from, p.to, p.lowest, 0);
 }
 

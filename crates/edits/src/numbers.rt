@@ -3,6 +3,7 @@ ghost use Rattle.std.specs.Prelude.{◌≡◌, ◌^◌, ◌<◌, ◌≤◌, leng
 ghost use Rattle.edits.specs.inner.Acts.{given};
 
 // How many there are.
+#[tactic(auto, using(crate::proofs::GivenLaws::giving))]
 pub fn count(numbers: &[u32], bytes: &[u8]) -> usize
     ensures value { result ≡ length (given numbers.now bytes.now) }
     ensures upper_bound { result ≤ 2 ^ 62 }
@@ -11,6 +12,7 @@ pub fn count(numbers: &[u32], bytes: &[u8]) -> usize
 }
 
 // The i-th of them.
+#[tactic(auto, using(crate::proofs::GivenLaws::giving))]
 pub fn number_at(numbers: &[u32], bytes: &[u8], i: usize) -> u32
     requires { i < length (given numbers.now bytes.now) }
     ensures { result ≡ slice_index (given numbers.now bytes.now) i }

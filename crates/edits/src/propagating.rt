@@ -6,15 +6,15 @@ ghost use Rattle.records.specs.Ranges.{infos, edit};
 ghost use Rattle.records.specs.{View.glyphs, inner.Stores.zero_glyph};
 ghost use Rattle.lists.specs.inner.Masks.{joined_low};
 ghost use Rattle.lists.specs.Contract.{Meets};
-ghost use Rattle.lists.specs.inner.Verdicts.{Sided};
 ghost use Rattle.edits.specs.Groups.{flag_table};
 ghost use Rattle.edits.specs.Groups.{settled_mask, propagate_flags};
-ghost use Rattle.edits.specs.inner.Propagating.{Propagates, PropagatesRun};
+ghost use Rattle.edits.specs.inner.Propagating.{Propagates};
 
 use super::{flag_table, whole};
-use lists::{Buffer, Reply, verdicts};
+use lists::{Buffer, Reply, swapping, verdicts};
 
 // The mask of one glyph becomes what the table has at its bits.
+#[tactic(auto, using(crate::proofs::Propagations::propagating))]
 fn propagate_one(run: &mut [u32], table: &[u32], wants: u32, s: usize)
     requires { (table.now ≡ flag_table) × (s < length (glyphs run.old)) }
     ensures { glyphs run.new ≡ slice_set (glyphs run.old) s (change (with_mask (settled_mask wants ((get_or (glyphs run.old) s zero_glyph).info.mask % 8))) (slice_index_or (glyphs run.old) s zero_glyph)) }
@@ -24,6 +24,7 @@ fn propagate_one(run: &mut [u32], table: &[u32], wants: u32, s: usize)
 }
 
 // The masks of a group become what the table has at their joined bits.
+#[tactic(auto, using(crate::proofs::Propagations::propagating))]
 fn propagate_group(run: &mut [u32], table: &[u32], wants: u32, s: usize, e: usize)
     requires { (table.now ≡ flag_table) × (s ≤ e) × (e ≤ length (glyphs run.old)) }
     ensures { glyphs run.new ≡ edit s e (with_mask (settled_mask wants (joined_low (slice s e (map (λ (i : Info). i.mask) (infos (glyphs run.old))))))) (glyphs run.old) }
@@ -37,6 +38,7 @@ fn propagate_group(run: &mut [u32], table: &[u32], wants: u32, s: usize, e: usiz
 }
 
 // The same of each group of one cluster, from the left. The table is lent, so that it is laid out once a call.
+#[tactic(auto, using(crate::proofs::Propagations::propagating))]
 fn propagate_each(run: &mut [u32], table: &[u32], wants: u32, n: usize)
     requires { (table.now ≡ flag_table) × (n ≤ length (glyphs run.old)) }
     ensures { Propagates wants n run.old run.new }
@@ -57,25 +59,16 @@ fn propagate_run(run: &mut [u32], wants: u32, n: usize)
     propagate_each(run, &flag_table::FLAG_TABLE, wants, n);
 }
 
-// The same, wherever the run lies.
-fn propagate_by(first: &mut [u32], second: &mut [u32], swapped: bool, wants: u32, n: usize)
-    requires { (n ≤ length (glyphs first.old)) × (n ≤ length (glyphs second.old)) }
-    ensures { Sided swapped (PropagatesRun wants n) first.old second.old first.new second.new }
-{
-    if swapped {
-        propagate_run(second, wants, n);
-    } else {
-        propagate_run(first, wants, n);
-    }
-}
-
 // 23
 pub fn propagate_flags(b: Buffer, first: &mut [u32], second: &mut [u32]) -> Reply
     ensures { Meets (λ capacity a. propagate_flags a) b first.old second.old result first.new second.new }
 {
-    let v = whole::whole_verdict(b, first, second);
-    if v.acts {
-        propagate_by(first, second, b.swapped, b.wants, b.len.0);
-    }
-    verdicts::settled(b, v)
+    let decision = whole::whole_verdict(b, first, second);
+    swapping::carry_out(
+        b,
+        decision,
+        first,
+        second,
+        |run, _other| propagate_run(run, b.wants, b.len.0),
+    )
 }

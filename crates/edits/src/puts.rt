@@ -1,77 +1,72 @@
 // One glyph that goes behind the output, by places. Where the output would overtake the cursor it moves to the other slice first: `apart`.
-ghost use Rattle.std.specs.Prelude.{◌≡◌, [], ◌∷◌, if◌then◌else◌};
-ghost use Rattle.records.specs.View.{seen};
-ghost use Rattle.lists.specs.inner.Verdicts.{Sided};
-ghost use Rattle.edits.specs.inner.Puts.{Puttable, Wrote, Modelled, Outputable, Outputs};
+ghost use Rattle.std.specs.Prelude.{◌≡◌, ◌+◌, ◌≤◌, [], ◌∷◌, length, if◌then◌else◌};
+ghost use Rattle.records.specs.View.{glyphs, seen};
+ghost use Rattle.lists.specs.inner.Copied.{copied};
+ghost use Rattle.edits.specs.inner.Puts.{Puttable, Brought, Wrote, Modelled, Outputable, Outputs};
 
 use super::writing;
+use lists::{Lists, swapping};
 use records::GlyphInfo;
 
 // The same glyph under another number.
 pub(crate) fn numbered(g: GlyphInfo, number: u32) -> GlyphInfo
     ensures { seen result ≡ record { glyph = number; info = (seen g).info } }
 {
-    let mut r = g;
-    r.glyph = number;
-    r
+    GlyphInfo { glyph: number, ..g }
 }
 
-// g goes behind the output, which ends at `to`.
-fn put_one(run: &mut [u32], other: &mut [u32], separate: bool, apart: bool, to: usize, g: GlyphInfo)
-    requires { Puttable to 1 run.old other.old }
-    ensures { Wrote separate apart to (seen g ∷ []) 1 run.old other.old run.new other.new }
+// The output moves to the other slice where it is to lie there. Whether it does, moved or not.
+#[tactic(auto, using(crate::proofs::PutLaws::put_laws))]
+pub(crate) fn bring(run: &[u32], other: &mut [u32], at: Lists, apart: bool) -> bool
+    requires { (at.out_len ≤ length (glyphs run.now)) × (at.out_len ≤ length (glyphs other.old)) }
+    ensures { Brought at apart run.now other.old other.new result }
 {
-    if separate {
-        records::glyphs::put(other, to, g);
-        return;
+    if at.separate {
+        return true;
     }
     if apart {
-        lists::copies::copy_across(run, other, 0, 0, to);
-        records::glyphs::put(other, to, g);
-        return;
+        lists::copies::copy_across(run, other, 0, 0, at.out_len);
     }
-    records::glyphs::put(run, to, g);
+    apart
 }
 
-// The same, wherever the run lies.
-pub(crate) fn put_by(
-    first: &mut [u32],
-    second: &mut [u32],
-    swapped: bool,
-    separate: bool,
-    apart: bool,
-    to: usize,
-    g: GlyphInfo,
-)
-    requires { Puttable to 1 first.old second.old }
-    ensures { Sided swapped (Wrote separate apart to (seen g ∷ []) 1) first.old second.old first.new second.new }
+// g goes to place `at`, as one of one glyphs.
+#[tactic(auto, using(crate::proofs::PutLaws::put_copied))]
+fn put_at(ws: &mut [u32], at: usize, g: GlyphInfo)
+    requires { at + 1 ≤ length (glyphs ws.old) }
+    ensures { glyphs ws.new ≡ copied (glyphs ws.old) at (seen g ∷ []) 0 1 }
 {
-    if swapped {
-        put_one(second, first, separate, apart, to, g);
-    } else {
-        put_one(first, second, separate, apart, to, g);
-    }
+    records::glyphs::put(ws, at, g);
+}
+
+// g goes behind the output.
+pub(crate) fn put_one(run: &mut [u32], other: &mut [u32], at: Lists, apart: bool, g: GlyphInfo)
+    requires { Puttable at.out_len 1 run.old other.old }
+    ensures { Wrote at apart (seen g ∷ []) 1 run.old other.old run.new other.new }
+{
+    let lies_apart = bring(run, other, at, apart);
+    swapping::act_on(
+        run,
+        other,
+        lies_apart,
+        |out, _rest| put_at(out, at.out_len, g),
+    );
 }
 
 // The glyph at the cursor, or the last of the output where there is none.
-fn model(
-    run: &[u32],
-    other: &[u32],
-    separate: bool,
-    idx: usize,
-    len: usize,
-    out_len: usize,
-) -> GlyphInfo
-    requires { Outputable idx len out_len run.now other.now }
-    ensures { Modelled separate idx len out_len run.now other.now (seen result) }
+#[tactic(auto, using(crate::proofs::PutLaws::put_laws))]
+fn model(run: &[u32], other: &[u32], at: Lists) -> GlyphInfo
+    requires { Outputable at run.now other.now }
+    ensures { Modelled at run.now other.now (seen result) }
 {
-    if idx < len {
-        return records::glyphs::get(run, idx);
+    if at.idx < at.len {
+        return records::glyphs::get(run, at.idx);
     }
-    writing::last_done(run, other, separate, out_len)
+    writing::last_done(run, other, at.separate, at.out_len)
 }
 
 // The glyph's own number, or another.
+#[tactic(auto, using(crate::proofs::PutLaws::put_laws))]
 fn number_of(g: GlyphInfo, own: bool, number: u32) -> u32
     ensures { result ≡ (if own then (seen g).glyph else number) }
 {
@@ -82,54 +77,23 @@ fn number_of(g: GlyphInfo, own: bool, number: u32) -> u32
 }
 
 // A copy of it goes behind the output, under its own number or another.
-fn output(
+pub(crate) fn output(
     run: &mut [u32],
     other: &mut [u32],
-    separate: bool,
+    at: Lists,
     apart: bool,
     own: bool,
-    idx: usize,
-    len: usize,
-    out_len: usize,
     number: u32,
 )
-    requires { Outputable idx len out_len run.old other.old }
-    ensures { Outputs separate apart own idx len out_len number run.old other.old run.new other.new }
+    requires { Outputable at run.old other.old }
+    ensures { Outputs at apart own number run.old other.old run.new other.new }
 {
-    let g = model(run, other, separate, idx, len, out_len);
+    let g = model(run, other, at);
     put_one(
         run,
         other,
-        separate,
+        at,
         apart,
-        out_len,
         numbered(g, number_of(g, own, number)),
     );
-}
-
-// The same, wherever the run lies.
-pub(crate) fn output_by(
-    first: &mut [u32],
-    second: &mut [u32],
-    swapped: bool,
-    separate: bool,
-    apart: bool,
-    own: bool,
-    idx: usize,
-    len: usize,
-    out_len: usize,
-    number: u32,
-)
-    requires { Outputable idx len out_len first.old second.old }
-    ensures { Sided swapped (Outputs separate apart own idx len out_len number) first.old second.old first.new second.new }
-{
-    if swapped {
-        output(
-            second, first, separate, apart, own, idx, len, out_len, number,
-        );
-    } else {
-        output(
-            first, second, separate, apart, own, idx, len, out_len, number,
-        );
-    }
 }

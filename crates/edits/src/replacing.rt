@@ -1,4 +1,5 @@
 // Replacing: calls 0D and 0E. Each decides, acts and settles.
+ghost use Rattle.lists.specs.inner.Verdicts.{amended};
 ghost use Rattle.std.specs.Prelude.{◌≡◌, false, [], ◌∷◌};
 ghost use Rattle.records.specs.Bytes.{words_of};
 ghost use Rattle.lists.specs.Contract.{Meets};
@@ -9,24 +10,26 @@ ghost use Rattle.edits.specs.inner.Puts.{costing, OutputDecided, ReplaceDecided}
 
 use super::merges::clusters_merge;
 use super::numbers::count;
-use super::{merge_acts, puts, replace_acts, writing};
-use lists::{Buffer, Reply, Verdict, state, verdicts};
+use super::{Way, lists_at, merge_acts, puts, replace_acts, writing};
+use lists::{Buffer, Decision, Reply, Verdict, state, swapping, verdicts};
 use records::Refusal;
 
 // The merge of n glyphs is paid for where glyphs are written.
-fn paying(v: Verdict, merges: bool, n: usize) -> Verdict
-    ensures { result ≡ costing (merge_limits merges n) v }
+#[tactic(auto, using(crate::proofs::ReplaceCalls::replace_calls))]
+#[inline(always)]
+fn paying(decision: Decision, merges: bool, n: usize) -> Decision
+    ensures { result ≡ amended (costing (merge_limits merges n)) decision }
 {
+    let v = decision?;
     if v.acts {
         let limits = merge_acts::merge_limits(v.limits, merges, n);
-        let mut r = v;
-        r.limits = limits;
-        return r;
+        return Ok(Verdict { limits, ..v });
     }
-    v
+    Ok(v)
 }
 
 // The size first, then the merge of the inputs. Of the numbers only their count is read.
+#[inline(always)]
 fn replace_verdict(
     b: Buffer,
     first: &[u32],
@@ -35,37 +38,56 @@ fn replace_verdict(
     num_out: usize,
     numbers: &[u32],
     bytes: &[u8],
-) -> Verdict
+) -> Decision
     ensures { ReplaceDecided num_in num_out (given numbers.now bytes.now) b first.now second.now result }
 {
-    if state::is_sound(b, first, second) {
-        let phase = b.phase;
-        if state::have_output(phase) {
-            let left = b.len.0 - b.idx.0;
-            if left < 1 {
-                return verdicts::refused(b, Refusal::OutOfRange);
-            }
-            if left < num_in {
-                return verdicts::refused(b, Refusal::OutOfRange);
-            }
-            if count(numbers, bytes) < num_out {
-                return verdicts::refused(b, Refusal::BadOperand);
-            }
-            let v = writing::write_verdict(
-                b,
-                records::glyphs::capacity(first),
-                num_in,
-                num_out,
-                true,
-            );
-            return paying(v, clusters_merge(b.level), num_in);
+    state::sound(b, first, second)?;
+    let phase = b.phase;
+    if state::have_output(phase) {
+        let left = b.len.0 - b.idx.0;
+        if left < 1 {
+            return Err(Refusal::OutOfRange);
         }
-        return verdicts::refused(b, Refusal::WrongPhase);
+        if left < num_in {
+            return Err(Refusal::OutOfRange);
+        }
+        if count(numbers, bytes) < num_out {
+            return Err(Refusal::BadOperand);
+        }
+        let v = writing::write_verdict(b, records::glyphs::capacity(first), num_in, num_out, true);
+        return paying(v, clusters_merge(b.level), num_in);
     }
-    verdicts::refused(b, Refusal::Contradiction)
+    Err(Refusal::WrongPhase)
+}
+
+// 0E, of numbers that are given in either way.
+#[inline(always)]
+fn replace_given(
+    b: Buffer,
+    first: &mut [u32],
+    second: &mut [u32],
+    num_in: usize,
+    num_out: usize,
+    numbers: &[u32],
+    bytes: &[u8],
+) -> Reply
+    ensures { Meets (λ capacity a. replace_glyphs capacity num_in num_out (given numbers.now bytes.now) a) b first.old second.old result first.new second.new }
+{
+    let decision = replace_verdict(b, first, second, num_in, num_out, numbers, bytes);
+    let way = Way {
+        merges: clusters_merge(b.level),
+        level: b.level,
+        wants: b.wants,
+    };
+    let at = lists_at::lists_of(b);
+    let apart = verdicts::moves_apart(decision);
+    swapping::carry_out(b, decision, first, second, |run, other| {
+        replace_acts::replace(run, other, at, apart, way, num_in, num_out, numbers, bytes)
+    })
 }
 
 // 0E
+#[inline(always)]
 pub fn replace_glyphs(
     b: Buffer,
     first: &mut [u32],
@@ -76,31 +98,11 @@ pub fn replace_glyphs(
 ) -> Reply
     ensures { Meets (λ capacity a. replace_glyphs capacity num_in num_out numbers.now a) b first.old second.old result first.new second.new }
 {
-    let v = replace_verdict(b, first, second, num_in, num_out, numbers, &[]);
-    if v.acts {
-        let merges = clusters_merge(b.level);
-        replace_acts::replace_by(
-            first,
-            second,
-            b.swapped,
-            b.have_separate_output,
-            v.apart,
-            merges,
-            b.level,
-            b.wants,
-            b.idx.0,
-            b.len.0,
-            b.out_len.0,
-            num_in,
-            num_out,
-            numbers,
-            &[],
-        );
-    }
-    verdicts::settled(b, v)
+    replace_given(b, first, second, num_in, num_out, numbers, &[])
 }
 
 // 0E, of numbers in a string of bytes, four bytes a number. Bytes after the last whole one are left alone.
+#[inline(always)]
 pub fn replace_glyphs_from_bytes(
     b: Buffer,
     first: &mut [u32],
@@ -111,65 +113,37 @@ pub fn replace_glyphs_from_bytes(
 ) -> Reply
     ensures { Meets (λ capacity a. replace_glyphs capacity num_in num_out (words_of bytes.now) a) b first.old second.old result first.new second.new }
 {
-    let v = replace_verdict(b, first, second, num_in, num_out, &[], bytes);
-    if v.acts {
-        let merges = clusters_merge(b.level);
-        replace_acts::replace_by(
-            first,
-            second,
-            b.swapped,
-            b.have_separate_output,
-            v.apart,
-            merges,
-            b.level,
-            b.wants,
-            b.idx.0,
-            b.len.0,
-            b.out_len.0,
-            num_in,
-            num_out,
-            &[],
-            bytes,
-        );
-    }
-    verdicts::settled(b, v)
+    replace_given(b, first, second, num_in, num_out, &[], bytes)
 }
 
 // One glyph for one merges nothing, and does not overtake the cursor.
-fn one_verdict(b: Buffer, first: &[u32], second: &[u32], number: u32) -> Verdict
+#[inline(always)]
+fn one_verdict(b: Buffer, first: &[u32], second: &[u32], number: u32) -> Decision
     ensures { OutputDecided (λ capacity a. replace_glyphs capacity 1 1 (number ∷ []) a) false number false b first.now second.now result }
 {
-    if state::is_sound(b, first, second) {
-        let phase = b.phase;
-        if state::have_output(phase) {
-            if b.len.0 <= b.idx.0 {
-                return verdicts::refused(b, Refusal::OutOfRange);
-            }
-            return verdicts::writes(b, records::glyphs::capacity(first), 1, 1, true);
+    state::sound(b, first, second)?;
+    let phase = b.phase;
+    if state::have_output(phase) {
+        if b.len.0 <= b.idx.0 {
+            return Err(Refusal::OutOfRange);
         }
-        return verdicts::refused(b, Refusal::WrongPhase);
+        return verdicts::writes(b, records::glyphs::capacity(first), 1, 1, true);
     }
-    verdicts::refused(b, Refusal::Contradiction)
+    Err(Refusal::WrongPhase)
 }
 
 // 0D
+#[inline(always)]
 pub fn replace_glyph(b: Buffer, first: &mut [u32], second: &mut [u32], number: u32) -> Reply
     ensures { Meets (λ capacity a. replace_glyphs capacity 1 1 (number ∷ []) a) b first.old second.old result first.new second.new }
 {
-    let v = one_verdict(b, first, second, number);
-    if v.acts {
-        puts::output_by(
-            first,
-            second,
-            b.swapped,
-            b.have_separate_output,
-            false,
-            false,
-            b.idx.0,
-            b.len.0,
-            b.out_len.0,
-            number,
-        );
-    }
-    verdicts::settled(b, v)
+    let decision = one_verdict(b, first, second, number);
+    let at = lists_at::lists_of(b);
+    swapping::carry_out(
+        b,
+        decision,
+        first,
+        second,
+        |run, other| puts::output(run, other, at, false, false, number),
+    )
 }

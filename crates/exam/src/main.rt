@@ -22,15 +22,5 @@ fn answer_all(first: &mut [u32], second: &mut [u32], script: &[u8], out: &mut [u
 }
 
 fn main() {
-    let mut script = printing::script_room();
-    let n = io::read_full(0, &mut script);
-    if printing::is_too_long(n) {
-        printing::print_too_long();
-        return;
-    }
-    let mut first = printing::words();
-    let mut second = printing::words();
-    let mut out = printing::text_room();
-    let m = answer_all(&mut first, &mut second, &script[..n], &mut out);
-    printing::print(&out, m);
+    printing::program(answer_all);
 }

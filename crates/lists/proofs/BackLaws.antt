@@ -1,11 +1,12 @@
 -- What `move_to` leaves: back over the start of the input, and the call by its tests.
+use Rattle.std.specs.Prelude.{Ok, Err, Some}
 use mathlib.Core.{Path.◌≡◌, Path.refl, Path.sym, Path.ap, Path.◌∙◌, Path.subst, Bool.Bool, Bool.true, Bool.false, Bool.cond, Bool.not, Bool.false≢true, List.List}
 use Prim.Native.Nat.{ℕ, ◌+◌, ◌-◌, ◌≤◌, ◌<◌}
 use native.Mathlib.Omega.{arith}
 use borrow.Author.Tests.{le-ltb, lt-ltb}
 use lib.{Dec.ltb, ListN.length}
-use Rattle.records.specs.{WrongPhase, OutOfRange, OverCapacity, Value, No, Limits, Answers.said, Counters.capacity_of, Counters.is_negative, Counters.costs, Counters.failed, Counters.grown, View.words_from}
-use Rattle.lists.specs.{declared.Buffer.Buffer, declared.Reply.Reply, declared.Room.TheVariants.Fits, declared.Room.TheVariants.GivesUp, declared.Room.TheVariants.Over}
+use Rattle.records.specs.{WrongPhase, OutOfRange, OverCapacity, Limits, Answers.said, Counters.capacity_of, Counters.is_negative, Counters.costs, Counters.failed, Counters.grown, View.words_from}
+use Rattle.lists.specs.{declared.Buffer.Buffer, declared.Reply.Reply, inner.Held.fitting, inner.Held.given_up, inner.Held.over_capacity}
 use Rattle.lists.specs.Account.{Account, with_gone, output_phase, spoiled_phase, has_output, is_spoiled, len, idx, out_length, paying, failing, sized}
 use Rattle.lists.specs.Account.{refuse◌when◌else◌, Result, refused, answered, outcome, needing}
 use Rattle.lists.specs.{Contract.account_of, inner.Held.Held, inner.Held.room_for}
@@ -102,27 +103,27 @@ module _ {b : Buffer} {n : ℕ} {run other : List ℕ} (v : BackOver b n run oth
       let s : spoiled_phase b.phase ≡ false = output-clean b.phase v.output in
       backward-needs _ n _ b.len.0 b.idx.0 (len_of b run other v.held s) (idx-of b run other v.held s) over-size (omega (arith, v.held.idx-in)) (lt-ltb _ _ v.past)
 
-  pub over-over : {r : Reply} → room_for (capacity_of (length run)) over-size b.limits ≡ Over → r ≡ reply b (No OverCapacity) → MeetsIn (λ capacity a. backward capacity n a) b run other r run other
+  pub over-over : {r : Reply} → room_for (capacity_of (length run)) over-size b.limits ≡ over_capacity → r ≡ reply b (Err OverCapacity) → MeetsIn (λ capacity a. backward capacity n a) b run other r run other
   over-over h er = in-refused OverCapacity (over-room ∙ room-over b run other _ _ _ _ h) v.held er
 
-  pub over-gives-up : {r : Reply} {l : Limits} {g : Buffer} → room_for (capacity_of (length run)) over-size b.limits ≡ GivesUp → l ≡ failed b.limits → g ≡ with_limits_of l b → r ≡ reply g (Value 0) → MeetsIn (λ capacity a. backward capacity n a) b run other r run other
+  pub over-gives-up : {r : Reply} {l : Limits} {g : Buffer} → room_for (capacity_of (length run)) over-size b.limits ≡ given_up → l ≡ failed b.limits → g ≡ with_limits_of l b → r ≡ reply g (Ok (Some 0)) → MeetsIn (λ capacity a. backward capacity n a) b run other r run other
   over-gives-up h el eg er =
       in-answered (with_limits_of (failed b.limits) b) (limits-side (failed b.limits) b) refl refl (held-failed b run other v.held) 0
       (over-room ∙ (room-gives-up b run other _ _ _ _ h ∙ ap (answered 0) (sym (failing-of b run other))))
-      (er ∙ ap (λ (x : Buffer). reply x (Value 0)) (eg ∙ ap (λ (x : Limits). with_limits_of x b) el))
+      (er ∙ ap (λ (x : Buffer). reply x (Ok (Some 0))) (eg ∙ ap (λ (x : Limits). with_limits_of x b) el))
 
-  module _ (h : room_for (capacity_of (length run)) over-size b.limits ≡ Fits) {l : Limits} {g : Buffer} (el : l ≡ costs left-of (grown over-size b.limits)) (eg : g ≡ with_limits_of l b) where
+  module _ (h : room_for (capacity_of (length run)) over-size b.limits ≡ fitting) {l : Limits} {g : Buffer} (el : l ≡ costs left-of (grown over-size b.limits)) (eg : g ≡ with_limits_of l b) where
     over-roomy : Roomy b over-size (costs left-of (grown over-size b.limits)) run
     over-roomy = roomy-paid b run other v.held over-size left-of h
 
     over-held : Held (with_limits_of (costs left-of (grown over-size b.limits)) b) run other
     over-held = held-limits b run other v.held _ over-roomy.grows over-roomy.within
 
-    pub over-spent : {r : Reply} → is_negative (costs left-of (grown over-size b.limits)).max_ops ≡ true → r ≡ reply g (Value 0) → MeetsIn (λ capacity a. backward capacity n a) b run other r run other
+    pub over-spent : {r : Reply} → is_negative (costs left-of (grown over-size b.limits)).max_ops ≡ true → r ≡ reply g (Ok (Some 0)) → MeetsIn (λ capacity a. backward capacity n a) b run other r run other
     over-spent k er =
         in-answered (with_limits_of (costs left-of (grown over-size b.limits)) b) (limits-side (costs left-of (grown over-size b.limits)) b) refl refl over-held 0
         (over-room ∙ (room_fits b run other _ _ _ _ h ∙ spent-fails b run other left-of _ over-size k))
-        (er ∙ ap (λ (x : Buffer). reply x (Value 0)) (eg ∙ ap (λ (x : Limits). with_limits_of x b) el))
+        (er ∙ ap (λ (x : Buffer). reply x (Ok (Some 0))) (eg ∙ ap (λ (x : Limits). with_limits_of x b) el))
 
     shiftable : (l : Limits) → Roomy b over-size l run → Shiftable (with_limits_of l b) (n - b.idx.0) run other
     unfolding with_limits_of
@@ -203,18 +204,18 @@ module _ (capacity i : ℕ) (a : Account ℕ) where
           move-stays p q = move-length ∙ rw (p, q)
 
 module _ {b : Buffer} {run other : List ℕ} {r : Reply} (i : ℕ) (v : Held b run other) where
-  pub move-in-spoiled : spoiled_phase b.phase ≡ true → r ≡ reply b (No WrongPhase) → MeetsIn (λ capacity a. move_to capacity i a) b run other r run other
+  pub move-in-spoiled : spoiled_phase b.phase ≡ true → r ≡ reply b (Err WrongPhase) → MeetsIn (λ capacity a. move_to capacity i a) b run other r run other
   move-in-spoiled h er = in-refused WrongPhase (move-spoiled _ i _ (spoiled-of b run other ∙ h)) v er
 
   module _ (h : spoiled_phase b.phase ≡ false) (o : output_phase b.phase ≡ false) where
-    pub move-in-outside : b.len.0 < i → r ≡ reply b (No OutOfRange) → MeetsIn (λ capacity a. move_to capacity i a) b run other r run other
+    pub move-in-outside : b.len.0 < i → r ≡ reply b (Err OutOfRange) → MeetsIn (λ capacity a. move_to capacity i a) b run other r run other
     move-in-outside k er = in-refused OutOfRange (move-outside _ i _ (spoiled-of b run other ∙ h) (output-of b run other ∙ o) (ap (λ (l : ℕ). ltb l i) (len_of b run other v h) ∙ lt-ltb _ _ k)) v er
 
-    pub move-in-places : {b' : Buffer} → i ≤ b.len.0 → b' ≡ at_places i b.len.0 b.out_len.0 b → r ≡ reply b' (Value 1) → MeetsIn (λ capacity a. move_to capacity i a) b run other r run other
+    pub move-in-places : {b' : Buffer} → i ≤ b.len.0 → b' ≡ at_places i b.len.0 b.out_len.0 b → r ≡ reply b' (Ok (Some 1)) → MeetsIn (λ capacity a. move_to capacity i a) b run other r run other
     move-in-places k eb er =
         in-answered (at_places i b.len.0 b.out_len.0 b) (places-side i b.len.0 b.out_len.0 b) refl refl (held_at b run other v o h i k) 1
         (move-places _ i _ (spoiled-of b run other ∙ h) (output-of b run other ∙ o) (ap (λ (l : ℕ). ltb l i) (len_of b run other v h) ∙ le-ltb _ _ k) ∙ ap (answered 1) (sym (cursor-of b run other v o h i k)))
-        (er ∙ ap (λ (x : Buffer). reply x (Value 1)) eb)
+        (er ∙ ap (λ (x : Buffer). reply x (Ok (Some 1))) eb)
 
 module _ {b : Buffer} {run other : List ℕ} (i : ℕ) (v : SyncOutput b run other) where
   clean_of : is_spoiled (account_of b run other) ≡ false
@@ -226,14 +227,14 @@ module _ {b : Buffer} {run other : List ℕ} (i : ℕ) (v : SyncOutput b run oth
   successful-of : {t : Bool} → b.limits.successful ≡ t → (account_of b run other).state.limits.successful ≡ t
   successful-of s = ap (λ (l : Limits). l.successful) (limits_of b run other) ∙ s
 
-  pub move-out-over : {r : Reply} → b.out_len.0 + (b.len.0 - b.idx.0) < i → r ≡ reply b (No OutOfRange) → MeetsIn (λ capacity a. move_to capacity i a) b run other r run other
+  pub move-out-over : {r : Reply} → b.out_len.0 + (b.len.0 - b.idx.0) < i → r ≡ reply b (Err OutOfRange) → MeetsIn (λ capacity a. move_to capacity i a) b run other r run other
   move-out-over k er = in-refused OutOfRange (move-over _ i _ clean_of (output-of b run other ∙ v.output) (ap (λ (l : ℕ). ltb l i) all_of ∙ lt-ltb _ _ k)) v.held er
 
   module _ (k : i ≤ b.out_len.0 + (b.len.0 - b.idx.0)) where
     within_of : ltb (out_length (account_of b run other) + length (account_of b run other).rest) i ≡ false
     within_of = ap (λ (l : ℕ). ltb l i) all_of ∙ le-ltb _ _ k
 
-    pub move-out-failed : {r : Reply} → b.limits.successful ≡ false → r ≡ reply b (Value 0) → MeetsIn (λ capacity a. move_to capacity i a) b run other r run other
+    pub move-out-failed : {r : Reply} → b.limits.successful ≡ false → r ≡ reply b (Ok (Some 0)) → MeetsIn (λ capacity a. move_to capacity i a) b run other r run other
     move-out-failed s er = in-answered b refl refl refl v.held 0 (move-failed _ i _ clean_of (output-of b run other ∙ v.output) within_of (successful-of s)) er
 
     module _ (s : b.limits.successful ≡ true) where
@@ -243,5 +244,5 @@ module _ {b : Buffer} {run other : List ℕ} (i : ℕ) (v : SyncOutput b run oth
       pub move-is-backward : i < b.out_len.0 → move_to (capacity_of (length run)) i (account_of b run other) ≡ backward (capacity_of (length run)) (b.out_len.0 - i) (account_of b run other)
       move-is-backward p = move-backward _ i _ clean_of (output-of b run other ∙ v.output) within_of (successful-of s) _ (out_of b run other v.held) (le-ltb b.out_len.0 i (omega arith)) (lt-ltb _ _ p)
 
-      pub move-out-stays : {r : Reply} → i ≤ b.out_len.0 → b.out_len.0 ≤ i → r ≡ reply b (Value 1) → MeetsIn (λ capacity a. move_to capacity i a) b run other r run other
+      pub move-out-stays : {r : Reply} → i ≤ b.out_len.0 → b.out_len.0 ≤ i → r ≡ reply b (Ok (Some 1)) → MeetsIn (λ capacity a. move_to capacity i a) b run other r run other
       move-out-stays p q er = in-answered b refl refl refl v.held 1 (move-stays _ i _ clean_of (output-of b run other ∙ v.output) within_of (successful-of s) _ (out_of b run other v.held) (le-ltb _ _ p) (le-ltb _ _ q)) er

@@ -1,8 +1,9 @@
 -- Laws of calls, whichever the call: refusal 1 and which slice holds the run, and what a call that was decided leaves.
+use Rattle.std.specs.Prelude.{Ok, Err, Some, None}
 use mathlib.Core.{Path.◌≡◌, Path.refl, Path.sym, Path.ap, Path.◌∙◌, Bool.Bool, Bool.true, Bool.false, Bool.cond, Bool.not, Bool.false≢true, List.List}
 use Prim.Native.Nat.{ℕ}
 use lib.{ListN.length}
-use Rattle.records.specs.{Refusal, Contradiction, Done, Value, No, Answers.no, Answers.refusal_number, Counters.capacity_of, Counters.rightly_lent, View.words_from}
+use Rattle.records.specs.{Refusal, Contradiction, Answers.no, Answers.refusal_number, Counters.capacity_of, Counters.rightly_lent, View.words_from}
 use Rattle.records.proofs.View.{lent_same}
 use Rattle.lists.specs.{declared.Buffer.Buffer, declared.Reply.Reply}
 use Rattle.lists.specs.Account.{Account}
@@ -67,7 +68,7 @@ pub untouched : (refuses : Bool) (size : ℕ) (b : Buffer) (f s : List ℕ) → 
 untouched refuses size b f s = record { stays = λ k. (refl, refl, refl); first-beyond = refl; second-beyond = refl; sounds = refl }
 
 module _ {call : ℕ → Account ℕ → Result ℕ} {b : Buffer} {f s : List ℕ} {r : Reply} where
-  pub shell-unsound : sound b f s ≡ false → r ≡ reply b (No Contradiction) → Meets call b f s r f s
+  pub shell-unsound : sound b f s ≡ false → r ≡ reply b (Err Contradiction) → Meets call b f s r f s
   unfolding judged refuse◌when◌else◌ outcome
   shell-unsound h e = rw e (record { is = rw h; alone = untouched _ _ b f s })
 
@@ -98,13 +99,13 @@ module _ {call : ℕ → Account ℕ → Result ℕ} {b : Buffer} {f s : List �
 
   -- a call that writes no word and goes by the account alone
   module _ (h : sound b f s ≡ true) where
-    pub shell-accepted : (b' : Buffer) → call (capacity_of (length f)) (account b f s) ≡ accepted (account b' f s) → r ≡ reply b' Done → Held b' f s → Meets call b f s r f s
+    pub shell-accepted : (b' : Buffer) → call (capacity_of (length f)) (account b f s) ≡ accepted (account b' f s) → r ≡ reply b' (Ok None) → Held b' f s → Meets call b f s r f s
     unfolding outcome
     shell-accepted b' e er v = rw er (record { is = sym (judged-sound call b f s h ∙ ap (outcome (account b f s)) e); alone = record { stays = λ k. absurd (false≢true k); first-beyond = refl; second-beyond = refl; sounds = held-sound b' f s (sound-lent b f s h) v ∙ sym h } })
 
 -- ---- below the shell
 module _ {call : ℕ → Account ℕ → Result ℕ} {b : Buffer} {run other : List ℕ} {r : Reply} where
-  pub in-refused : (why : Refusal) → call (capacity_of (length run)) (account_of b run other) ≡ refused why → Held b run other → r ≡ reply b (No why) → MeetsIn call b run other r run other
+  pub in-refused : (why : Refusal) → call (capacity_of (length run)) (account_of b run other) ≡ refused why → Held b run other → r ≡ reply b (Err why) → MeetsIn call b run other r run other
   unfolding outcome
   in-refused why e v er = rw er (record {
     is = rw (in-side b.swapped b run other refl) (sym (ap (outcome (account_of b run other)) e));
@@ -116,7 +117,7 @@ module _ {call : ℕ → Account ℕ → Result ℕ} {b : Buffer} {run other : L
 
   -- b' is the buffer after the call, x the value that it answers
   module _ {run' other' : List ℕ} (b' : Buffer) (side : b'.swapped ≡ b.swapped) (br : words_from b'.limits.allocated run' ≡ words_from b'.limits.allocated run) (bo : words_from b'.limits.allocated other' ≡ words_from b'.limits.allocated other) (v : Held b' run other) where
-    pub in-accepted : call (capacity_of (length run)) (account_of b run other) ≡ accepted (account_of b' run' other') → r ≡ reply b' Done → MeetsIn call b run other r run' other'
+    pub in-accepted : call (capacity_of (length run)) (account_of b run other) ≡ accepted (account_of b' run' other') → r ≡ reply b' (Ok None) → MeetsIn call b run other r run' other'
     unfolding outcome
     in-accepted e er = rw er (record {
       is = rw (in-side b.swapped b' run' other' side) (sym (ap (outcome (account_of b run other)) e));
@@ -126,7 +127,7 @@ module _ {call : ℕ → Account ℕ → Result ℕ} {b : Buffer} {run other : L
       held = v;
     })
 
-    pub in-answered : (x : ℕ) → call (capacity_of (length run)) (account_of b run other) ≡ answered x (account_of b' run' other') → r ≡ reply b' (Value x) → MeetsIn call b run other r run' other'
+    pub in-answered : (x : ℕ) → call (capacity_of (length run)) (account_of b run other) ≡ answered x (account_of b' run' other') → r ≡ reply b' (Ok (Some x)) → MeetsIn call b run other r run' other'
     unfolding outcome
     in-answered x e er = rw er (record {
       is = rw (in-side b.swapped b' run' other' side) (sym (ap (outcome (account_of b run other)) e));

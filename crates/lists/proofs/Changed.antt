@@ -1,4 +1,5 @@
 -- A state with other limits, at other places, or with its output apart: what it holds, and its account.
+use Rattle.std.specs.Prelude.{Ok}
 use mathlib.Core.{Path.◌≡◌, Path.refl, Path.sym, Bool.true, Bool.false, Bool.cond, Bool.false≢true, List.List}
 use Prim.Native.Nat.{ℕ, ◌≤◌}
 use lib.{ListN.length, ListN.take, Seq.slice}
@@ -131,7 +132,7 @@ module _ (b : Buffer) where
 pub ruleset changed = (other-limits, other-places, apart-limits, apart-swapped)
 
 -- the reply of a verdict, by what it says of places, limits and output
-pub settled_at : (b : Buffer) (v : Verdict) → settled b v ≡ reply (let x = at_places v.idx v.len v.out_len (with_limits_of v.limits b) in cond v.apart (apart_buffer x) x) v.answer
+pub settled_at : (b : Buffer) (v : Verdict) → settled b (Ok v) ≡ reply (let x = at_places v.idx v.len v.out_len (with_limits_of v.limits b) in cond v.apart (apart_buffer x) x) (Ok v.value)
 unfolding settled settled_buffer with_limits_of at_places
 settled_at b v = refl
 

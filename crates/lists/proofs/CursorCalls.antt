@@ -1,28 +1,29 @@
 -- What the calls on the counters and the cursor come to, outcome by outcome: 24, 25, 26, 09, 08.
+use Rattle.std.specs.Prelude.{Ok, Some, None}
 use mathlib.Core.{Path.◌≡◌, Path.refl, Path.sym, Path.ap, Path.◌∙◌, Bool.Bool, Bool.true, Bool.false, Bool.cond, Bool.◌||◌, Bool.not, Bool.false≢true, List.List}
 use Prim.Native.Nat.{ℕ, ◌+◌, ◌-◌, ◌%◌, ◌≤◌, ◌<◌, ◌^◌}
 use native.Mathlib.Omega.{arith}
 use borrow.Author.Tests.{eqb-true}
 use lib.{Dec.eqb, Dec.ltb, ListN.length}
-use Rattle.records.specs.{WrongPhase, OutOfRange, Done, Value, No, Limits, Counters.capacity_of, Counters.limited, Counters.after_enter, Counters.after_leave, Counters.lig_serial, Counters.with_serial, View.glyphs}
+use Rattle.records.specs.{WrongPhase, OutOfRange, Limits, Counters.capacity_of, Counters.limited, Counters.after_enter, Counters.after_leave, Counters.lig_serial, Counters.with_serial, View.glyphs}
 use Rattle.records.proofs.View.{length-glyphs, glyphs-same}
-use Rattle.lists.specs.{declared.Buffer.Buffer, declared.Verdict.Verdict}
+use Rattle.lists.specs.{declared.Buffer.Buffer}
 use Rattle.lists.specs.Account.{Account, output_phase, spoiled_phase, has_output, is_spoiled, idx, limiting}
 use Rattle.lists.specs.Account.{refuse◌when◌else◌, Result, accepted, answered}
 use Rattle.lists.specs.Cursor.{enter, leave, allocate_lig_id, dropping, cursor_at, skip_glyph, next_glyphs}
-use Rattle.lists.specs.{Contract.account_of, Contract.sound, inner.Held.Soundness, inner.Held.Held}
-use Rattle.lists.specs.inner.States.{with_limits_of, at_places}
+use Rattle.lists.specs.{Contract.account_of, Contract.sound, inner.Held.Test, inner.Held.Tested, inner.Held.Held}
+use Rattle.lists.specs.inner.States.{Decision, with_limits_of, at_places}
 use Rattle.lists.specs.inner.Moving.{Passable, Carried}
-use Rattle.lists.specs.inner.Verdicts.{Leaves, wrote_buffer, lies_elsewhere, settled, Decided}
+use Rattle.lists.specs.inner.Verdicts.{acts_of, Turned, wrote_buffer, lies_elsewhere, settled, Decided}
 use Rattle.lists.proofs.Accounts.{output-of, spoiled-of, limits_of, limited-of, idx-of, len_of}
-use Rattle.lists.proofs.SoundLaws.{sound-held, not-overtaken, is-sound, soundness}
+use Rattle.lists.proofs.SoundLaws.{sound-held, not-overtaken, tests-sound, soundness}
 use Rattle.lists.proofs.SizeLaws.{fits-within}
 use Rattle.lists.proofs.Simple.{refuse-yes, refuse-no, cursor-of, dropping-of}
 use Rattle.lists.proofs.Inner.{held-limits, few-left, enough-left}
 use Rattle.lists.proofs.SyncLaws.{NextOutput, next-room, next-ready, next-moves}
 use Rattle.lists.proofs.Carrying.{carried_none}
 use Rattle.lists.proofs.Moving.{forward-moves}
-use Rattle.lists.proofs.Decisions.{Lying, near-places, near-limits, near-placed, Refuses, Accepts, accepts, Does, Needs, Rooms, decided-refused, decided-accepted, decided-sized, decided-unsound, settles-accepted, settles-refused, settles-unsound}
+use Rattle.lists.proofs.Decisions.{turned, Lying, near-places, near-limits, near-placed, Refuses, Accepts, accepts, Does, Needs, Rooms, decided-refused, decided-accepted, decided-sized, decided-unsound, settles-accepted, settles-refused, settles-unsound}
 use Rattle.records.proofs.Tests.{tested}
 
 -- ---- the first test of many calls
@@ -44,24 +45,24 @@ module _ {b : Buffer} {f : List ℕ} where
   lig-spoiled h = spoiled-refuses _ h
 
   module _ (h : spoiled_phase b.phase ≡ false) where
-    pub enter-accepts : {l : Limits} {b' : Buffer} → l ≡ after_enter b.len.0 b.limits → b' ≡ with_limits_of l b → Accepts (λ capacity a. enter a) b f b' Done
+    pub enter-accepts : {l : Limits} {b' : Buffer} → l ≡ after_enter b.len.0 b.limits → b' ≡ with_limits_of l b → Accepts (λ capacity a. enter a) b f b' None
     unfolding enter after_enter limited
-    enter-accepts el eb = rw (eb, el) (accepts Done refl (near-limits b _) (λ run other l. (
+    enter-accepts el eb = rw (eb, el) (accepts None (near-limits b _) (λ run other l. (
       refuse-no WrongPhase _ (is_spoiled (account_of b run other)) (spoiled-of b run other ∙ h)
           ∙ ap accepted (ap (λ n. limiting (after_enter n) (account_of b run other)) (len_of b run other l.held h) ∙ sym (limited-of b run other (after_enter b.len.0))),
       held-limits b run other l.held _ (omega arith) l.held.all_in,
     )))
 
-    pub leave-accepts : {l : Limits} {b' : Buffer} → l ≡ after_leave b.limits → b' ≡ with_limits_of l b → Accepts (λ capacity a. leave a) b f b' Done
+    pub leave-accepts : {l : Limits} {b' : Buffer} → l ≡ after_leave b.limits → b' ≡ with_limits_of l b → Accepts (λ capacity a. leave a) b f b' None
     unfolding leave after_leave limited
-    leave-accepts el eb = rw (eb, el) (accepts Done refl (near-limits b _) (λ run other l. (
+    leave-accepts el eb = rw (eb, el) (accepts None (near-limits b _) (λ run other l. (
       refuse-no WrongPhase _ (is_spoiled (account_of b run other)) (spoiled-of b run other ∙ h) ∙ ap accepted (sym (limited-of b run other after_leave)),
       held-limits b run other l.held _ (omega arith) l.held.all_in,
     )))
 
-    pub lig-accepts : {n : ℕ} {l : Limits} {b' : Buffer} → n ≡ lig_serial b.limits.serial → l ≡ with_serial n b.limits → b' ≡ with_limits_of l b → Accepts (λ capacity a. allocate_lig_id a) b f b' (Value (n % 8))
+    pub lig-accepts : {n : ℕ} {l : Limits} {b' : Buffer} → n ≡ lig_serial b.limits.serial → l ≡ with_serial n b.limits → b' ≡ with_limits_of l b → Accepts (λ capacity a. allocate_lig_id a) b f b' (Some (n % 8))
     unfolding allocate_lig_id with_serial
-    lig-accepts en el eb = rw (eb, el, en) (accepts (Value _) refl (near-limits b _) (λ run other l. (
+    lig-accepts en el eb = rw (eb, el, en) (accepts (Some _) (near-limits b _) (λ run other l. (
       refuse-no WrongPhase _ (is_spoiled (account_of b run other)) (spoiled-of b run other ∙ h)
           ∙ (ap (λ (l : Limits). answered (lig_serial l.serial % 8) (limiting (with_serial (lig_serial l.serial)) (account_of b run other))) (limits_of b run other)
           ∙ ap (answered (lig_serial b.limits.serial % 8)) (sym (limited-of b run other (with_serial (lig_serial b.limits.serial))))),
@@ -108,8 +109,8 @@ module _ {b : Buffer} (p : spoiled_phase b.phase ≡ false) where
       ∙ (refuse-no OutOfRange _ (ltb (length (account_of b run other).rest) n) (enough-left b run other v p n k)
       ∙ rw (output-of b run other ∙ o) (ap accepted (ap (λ (i : ℕ). cursor_at (i + n) (account_of b run other)) (idx-of b run other v p) ∙ sym (cursor-of b run other v o p (b.idx.0 + n) (omega (arith, v.idx-in))))))
 
-abbrev NextDecided : Buffer → ℕ → (f s : List ℕ) → Verdict → Type 0
-NextDecided b n f s v = Decided (λ capacity a. next_glyphs capacity n a) b f s (settled b v) v.acts (Passable b.have_separate_output b.idx.0 b.out_len.0 n f s) (Carried b.have_separate_output b.idx.0 b.out_len.0 n)
+abbrev NextDecided : Buffer → ℕ → (f s : List ℕ) → Decision → Type 0
+NextDecided b n f s v = Decided (λ capacity a. next_glyphs capacity n a) b f s (settled b v) (acts_of v) (Passable b.have_separate_output b.idx.0 b.out_len.0 n f s) (Carried b.have_separate_output b.idx.0 b.out_len.0 n)
 
 module _ {b : Buffer} {f : List ℕ} where
   pub skip-spoiled : spoiled_phase b.phase ≡ true → Refuses (λ capacity a. skip_glyph a) b f WrongPhase
@@ -121,7 +122,7 @@ module _ {b : Buffer} {f : List ℕ} where
   next-refuses n h = spoiled-refuses _ h
 
   -- the number of glyphs is shown by what the act asks for alone
-  pub next-spoiled : {n : ℕ} {s : List ℕ} {v : Verdict} → sound b f s ≡ true → spoiled_phase b.phase ≡ true → Leaves b false (No WrongPhase) v → NextDecided b n f s v
+  pub next-spoiled : {n : ℕ} {s : List ℕ} {v : Decision} → sound b f s ≡ true → spoiled_phase b.phase ≡ true → Turned WrongPhase v → NextDecided b n f s v
   next-spoiled {n} h k w = decided-refused h (next-refuses n k) w
 
   module _ (p : spoiled_phase b.phase ≡ false) where
@@ -141,15 +142,15 @@ module _ {b : Buffer} {f : List ℕ} where
           ∙ refuse-yes OutOfRange _ (ltb (length (account_of b run other).rest) n) (few-left b run other l.held p n k);
     }
 
-    pub next-outside : {n : ℕ} {s : List ℕ} {v : Verdict} → sound b f s ≡ true → b.len.0 - b.idx.0 < n → Leaves b false (No OutOfRange) v → NextDecided b n f s v
+    pub next-outside : {n : ℕ} {s : List ℕ} {v : Decision} → sound b f s ≡ true → b.len.0 - b.idx.0 < n → Turned OutOfRange v → NextDecided b n f s v
     next-outside h k w = decided-refused h (next-refuses-far k) w
 
-    pub skip-accepts : 1 ≤ b.len.0 - b.idx.0 → Accepts (λ capacity a. skip_glyph a) b f (at_places (b.idx.0 + 1) b.len.0 b.out_len.0 b) Done
-    skip-accepts k = accepts Done refl (near-places b _ _ _) (λ run other l. (skip_is p run other l.held k, passed-held (b.idx.0 + 1) (omega arith) (omega (arith, l.held.idx-in)) l.held))
+    pub skip-accepts : 1 ≤ b.len.0 - b.idx.0 → Accepts (λ capacity a. skip_glyph a) b f (at_places (b.idx.0 + 1) b.len.0 b.out_len.0 b) None
+    skip-accepts k = accepts None (near-places b _ _ _) (λ run other l. (skip_is p run other l.held k, passed-held (b.idx.0 + 1) (omega arith) (omega (arith, l.held.idx-in)) l.held))
 
     module _ {n : ℕ} (k : n ≤ b.len.0 - b.idx.0) where
-      pub next-accepts : output_phase b.phase ≡ false → Accepts (λ capacity a. next_glyphs capacity n a) b f (at_places (b.idx.0 + n) b.len.0 b.out_len.0 b) Done
-      next-accepts o = accepts Done refl (near-places b _ _ _) (λ run other l. (next-passes p n run other l.held k o, passed-held (b.idx.0 + n) (omega arith) (omega (arith, l.held.idx-in)) l.held))
+      pub next-accepts : output_phase b.phase ≡ false → Accepts (λ capacity a. next_glyphs capacity n a) b f (at_places (b.idx.0 + n) b.len.0 b.out_len.0 b) None
+      next-accepts o = accepts None (near-places b _ _ _) (λ run other l. (next-passes p n run other l.held k o, passed-held (b.idx.0 + n) (omega arith) (omega (arith, l.held.idx-in)) l.held))
 
       -- with output
       next-output : {run other : List ℕ} → output_phase b.phase ≡ true → Lying b f run other → NextOutput b n run other
@@ -158,7 +159,7 @@ module _ {b : Buffer} {f : List ℕ} where
       pub next-needs : output_phase b.phase ≡ true → Needs (λ capacity a. next_glyphs capacity n a) b f n
       next-needs o = record { then = _; law = λ run other l. next-room (next-output o l) }
 
-      pub next-does : output_phase b.phase ≡ true → Rooms b f n → Does (λ capacity a. next_glyphs capacity n a) b f (wrote_buffer n n b) (lies_elsewhere b) Done (Carried b.have_separate_output b.idx.0 b.out_len.0 n)
+      pub next-does : output_phase b.phase ≡ true → Rooms b f n → Does (λ capacity a. next_glyphs capacity n a) b f (wrote_buffer n n b) (lies_elsewhere b) None (Carried b.have_separate_output b.idx.0 b.out_len.0 n)
       unfolding wrote_buffer with_limits_of
       next-does o room = record {
         near = near-placed b _ _ _ _;
@@ -177,18 +178,18 @@ room-carriable {b} {f} {s} {n} h k room =
     record { fits = record { same = glyphs-same f s w.same; leaving = omega arith; arriving = omega arith }; behind = not-overtaken w }
 
 -- ---- numbers of the code that stay small
-module _ {b : Buffer} {f s : List ℕ} {t : Bool} (w : Soundness b f s t) (h : t ≡ true) where
+module _ {b : Buffer} {f s : List ℕ} {t : Test} {y : Unit {0}} (w : Tested b f s t) (h : t ≡ Ok y) where
   pub sound-idx : b.idx.0 ≤ b.len.0
-  sound-idx = (sound-held b f s (is-sound w h)).idx-in
+  sound-idx = (sound-held b f s (tests-sound w h)).idx-in
 
   pub sound-len : b.len.0 ≤ 1048576
-  sound-len = let v = sound-held b f s (is-sound w h) in omega arith
+  sound-len = let v = sound-held b f s (tests-sound w h) in omega arith
 
   pub idx-small : {n : ℕ} → n ≤ b.len.0 - b.idx.0 → b.idx.0 + n < 2 ^ 64
-  idx-small k = let v = sound-held b f s (is-sound w h) in omega arith
+  idx-small k = let v = sound-held b f s (tests-sound w h) in omega arith
 
   pub out-small : {n : ℕ} → n ≤ b.len.0 - b.idx.0 → b.out_len.0 + n < 2 ^ 64
-  out-small k = let v = sound-held b f s (is-sound w h) in omega arith
+  out-small k = let v = sound-held b f s (tests-sound w h) in omega arith
 
 -- for the proofs of functions
-pub ruleset cursor-calls = (soundness, tested, settles-unsound, settles-refused, settles-accepted, decided-unsound, decided-accepted, decided-sized, enter-spoiled, enter-accepts, leave-spoiled, leave-accepts, lig-spoiled, lig-accepts, skip-spoiled, skip-outside, skip-accepts, next-spoiled, next-outside, next-accepts, next-needs, next-does, room-carriable, sound-idx, sound-len, idx-small, out-small)
+pub ruleset cursor-calls = (turned, soundness, tested, settles-unsound, settles-refused, settles-accepted, decided-unsound, decided-accepted, decided-sized, enter-spoiled, enter-accepts, leave-spoiled, leave-accepts, lig-spoiled, lig-accepts, skip-spoiled, skip-outside, skip-accepts, next-spoiled, next-outside, next-accepts, next-needs, next-does, room-carriable, sound-idx, sound-len, idx-small, out-small)

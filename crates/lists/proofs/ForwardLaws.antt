@@ -1,9 +1,10 @@
 -- What the parts of `move_to` leave: a cost, forward, and back within the input.
+use Rattle.std.specs.Prelude.{Ok, Err, Some}
 use mathlib.Core.{Path.◌≡◌, Path.refl, Path.sym, Path.ap, Path.◌∙◌, Bool.Bool, Bool.true, Bool.false, Bool.cond, List.List}
 use Prim.Native.Nat.{ℕ, ◌+◌, ◌-◌}
 use lib.{Dec.ltb, ListN.length}
-use Rattle.records.specs.{OverCapacity, Value, No, Limits, Counters.capacity_of, Counters.is_negative, Counters.costs, Counters.failed, Counters.grown}
-use Rattle.lists.specs.{declared.Buffer.Buffer, declared.Reply.Reply, declared.Room.TheVariants.Fits, declared.Room.TheVariants.GivesUp, declared.Room.TheVariants.Over}
+use Rattle.records.specs.{OverCapacity, Limits, Counters.capacity_of, Counters.is_negative, Counters.costs, Counters.failed, Counters.grown}
+use Rattle.lists.specs.{declared.Buffer.Buffer, declared.Reply.Reply, inner.Held.fitting, inner.Held.given_up, inner.Held.over_capacity}
 use Rattle.lists.specs.Account.{Account, with_gone, with_limits, len, idx, out_length, limiting, paying, failing, sized}
 use Rattle.lists.specs.Account.{Result, answered, outcome, needing}
 use Rattle.lists.specs.{Contract.state_of, Contract.account_of, inner.Held.room_for}
@@ -72,27 +73,27 @@ module _ {b : Buffer} {n : ℕ} {run other : List ℕ} (v : NextOutput b n run o
   forward-room : forward (capacity_of (length run)) n (account_of b run other) ≡ needing (capacity_of (length run)) out-size (account_of b run other) (pays_for n (sized out-size (account_of b run other)) (answered 1 (moved n (paying n (sized out-size (account_of b run other)))))) (answered 0 (failing (account_of b run other)))
   forward-room = forward-needs _ n _ out-size (ap (λ (j : ℕ). j + n) (out_of b run other v.held))
 
-  pub forward-over : {r : Reply} → room_for (capacity_of (length run)) out-size b.limits ≡ Over → r ≡ reply b (No OverCapacity) → MeetsIn (λ capacity a. forward capacity n a) b run other r run other
+  pub forward-over : {r : Reply} → room_for (capacity_of (length run)) out-size b.limits ≡ over_capacity → r ≡ reply b (Err OverCapacity) → MeetsIn (λ capacity a. forward capacity n a) b run other r run other
   forward-over h er = in-refused OverCapacity (forward-room ∙ room-over b run other _ _ _ _ h) v.held er
 
-  pub forward-gives-up : {r : Reply} {l : Limits} {g : Buffer} → room_for (capacity_of (length run)) out-size b.limits ≡ GivesUp → l ≡ failed b.limits → g ≡ with_limits_of l b → r ≡ reply g (Value 0) → MeetsIn (λ capacity a. forward capacity n a) b run other r run other
+  pub forward-gives-up : {r : Reply} {l : Limits} {g : Buffer} → room_for (capacity_of (length run)) out-size b.limits ≡ given_up → l ≡ failed b.limits → g ≡ with_limits_of l b → r ≡ reply g (Ok (Some 0)) → MeetsIn (λ capacity a. forward capacity n a) b run other r run other
   forward-gives-up h el eg er =
       in-answered (with_limits_of (failed b.limits) b) (limits-side (failed b.limits) b) refl refl (held-failed b run other v.held) 0
       (forward-room ∙ (room-gives-up b run other _ _ _ _ h ∙ ap (answered 0) (sym (failing-of b run other))))
-      (er ∙ ap (λ (x : Buffer). reply x (Value 0)) (eg ∙ ap (λ (x : Limits). with_limits_of x b) el))
+      (er ∙ ap (λ (x : Buffer). reply x (Ok (Some 0))) (eg ∙ ap (λ (x : Limits). with_limits_of x b) el))
 
-  module _ (h : room_for (capacity_of (length run)) out-size b.limits ≡ Fits) {l : Limits} {g : Buffer} (el : l ≡ costs n (grown out-size b.limits)) (eg : g ≡ with_limits_of l b) where
-    pub forward-spent : {r : Reply} → is_negative (costs n (grown out-size b.limits)).max_ops ≡ true → r ≡ reply g (Value 0) → MeetsIn (λ capacity a. forward capacity n a) b run other r run other
+  module _ (h : room_for (capacity_of (length run)) out-size b.limits ≡ fitting) {l : Limits} {g : Buffer} (el : l ≡ costs n (grown out-size b.limits)) (eg : g ≡ with_limits_of l b) where
+    pub forward-spent : {r : Reply} → is_negative (costs n (grown out-size b.limits)).max_ops ≡ true → r ≡ reply g (Ok (Some 0)) → MeetsIn (λ capacity a. forward capacity n a) b run other r run other
     forward-spent k er =
         let q : Roomy b out-size (costs n (grown out-size b.limits)) run = roomy-paid b run other v.held out-size n h in
         in-answered (with_limits_of (costs n (grown out-size b.limits)) b) (limits-side (costs n (grown out-size b.limits)) b) refl refl (held-limits b run other v.held _ q.grows q.within) 0
         (forward-room ∙ (room_fits b run other _ _ _ _ h ∙ spent-fails b run other n _ out-size k))
-        (er ∙ ap (λ (x : Buffer). reply x (Value 0)) (eg ∙ ap (λ (x : Limits). with_limits_of x b) el))
+        (er ∙ ap (λ (x : Buffer). reply x (Ok (Some 0))) (eg ∙ ap (λ (x : Limits). with_limits_of x b) el))
 
     pub forward-ready : Forwardable g n run other
     forward-ready = rw (eg, el) (forwardable v _ (roomy-paid b run other v.held _ n h))
 
-    pub forward-moves : {r : Reply} {f : Buffer} {run' other' : List ℕ} → is_negative (costs n (grown out-size b.limits)).max_ops ≡ false → Moves (moved n) g run other f run' other' → r ≡ reply f (Value 1) → MeetsIn (λ capacity a. forward capacity n a) b run other r run' other'
+    pub forward-moves : {r : Reply} {f : Buffer} {run' other' : List ℕ} → is_negative (costs n (grown out-size b.limits)).max_ops ≡ false → Moves (moved n) g run other f run' other' → r ≡ reply f (Ok (Some 1)) → MeetsIn (λ capacity a. forward capacity n a) b run other r run' other'
     forward-moves {r} {f} {run'} {other'} k w er =
         let w' : Moves (moved n) (with_limits_of (costs n (grown out-size b.limits)) b) run other f run' other' = rw (eg, el) at w in
         move-answered w' (limits-side (costs n (grown out-size b.limits)) b) 1
@@ -100,12 +101,12 @@ module _ {b : Buffer} {n : ℕ} {run other : List ℕ} (v : NextOutput b n run o
 
 -- ---- goes_back
 module _ {b : Buffer} {n : ℕ} {run other : List ℕ} (v : Returnable b n run other) {l : Limits} {g : Buffer} (el : l ≡ costs n b.limits) (eg : g ≡ with_limits_of l b) where
-  pub back-spent : {r : Reply} → is_negative (costs n b.limits).max_ops ≡ true → r ≡ reply g (Value 0) → MeetsIn (λ capacity a. goes_back n a) b run other r run other
+  pub back-spent : {r : Reply} → is_negative (costs n b.limits).max_ops ≡ true → r ≡ reply g (Ok (Some 0)) → MeetsIn (λ capacity a. goes_back n a) b run other r run other
   unfolding goes_back
   back-spent k er =
       in-answered (with_limits_of (costs n b.limits) b) (limits-side (costs n b.limits) b) refl refl (held-paid b run other v.held n) 0
       (cost-fails b run other n _ k)
-      (er ∙ ap (λ (x : Buffer). reply x (Value 0)) (eg ∙ ap (λ (x : Limits). with_limits_of x b) el))
+      (er ∙ ap (λ (x : Buffer). reply x (Ok (Some 0))) (eg ∙ ap (λ (x : Limits). with_limits_of x b) el))
 
   back-ready-paid : Returnable (with_limits_of (costs n b.limits) b) n run other
   unfolding with_limits_of
@@ -114,7 +115,7 @@ module _ {b : Buffer} {n : ℕ} {run other : List ℕ} (v : Returnable b n run o
   pub back-ready : Returnable g n run other
   back-ready = rw (eg, el) back-ready-paid
 
-  pub back-moves : {r : Reply} {f : Buffer} {run' other' : List ℕ} → is_negative (costs n b.limits).max_ops ≡ false → Moves (back n) g run other f run' other' → r ≡ reply f (Value 1) → MeetsIn (λ capacity a. goes_back n a) b run other r run' other'
+  pub back-moves : {r : Reply} {f : Buffer} {run' other' : List ℕ} → is_negative (costs n b.limits).max_ops ≡ false → Moves (back n) g run other f run' other' → r ≡ reply f (Ok (Some 1)) → MeetsIn (λ capacity a. goes_back n a) b run other r run' other'
   unfolding goes_back
   back-moves {r} {f} {run'} {other'} k w er =
       let w' : Moves (back n) (with_limits_of (costs n b.limits) b) run other f run' other' = rw (eg, el) at w in

@@ -1,12 +1,13 @@
 -- Sizes, limits and costs of a buffer, and how many glyphs stand before its cursor.
+use Rattle.std.specs.Prelude.{Ok, Some, None}
 use mathlib.Core.{Path.◌≡◌, Path.refl, Path.sym, Path.ap, Path.◌∙◌, Path.subst, Bool.Bool, Bool.true, Bool.false, Bool.cond, List.List}
 use Prim.Native.Nat.{ℕ, ◌-◌, ◌≤◌, ◌<◌}
 use native.Mathlib.Omega.{arith}
 use borrow.Author.Tests.{le-ltb, lt-ltb}
 use lib.{Dec.ltb, ListN.length}
-use Rattle.records.specs.{OverCapacity, Done, Value, Limits, Counters.capacity_of, Counters.is_negative, Counters.costs, Counters.failed, Counters.grown, View.glyphs, View.words_from}
+use Rattle.records.specs.{OverCapacity, Limits, Counters.capacity_of, Counters.is_negative, Counters.costs, Counters.failed, Counters.grown, View.glyphs, View.words_from}
 use Rattle.records.proofs.View.{length-glyphs}
-use Rattle.lists.specs.{declared.Buffer.Buffer, declared.Reply.Reply, declared.Room.Room, declared.Room.TheVariants.Fits, declared.Room.TheVariants.GivesUp, declared.Room.TheVariants.Over}
+use Rattle.lists.specs.{declared.Buffer.Buffer, declared.Reply.Reply, inner.Held.Room, inner.Held.fitting, inner.Held.given_up, inner.Held.over_capacity}
 use Rattle.lists.specs.Account.{Account, with_limits, spoiled_phase, limiting, paying, failing, sized}
 use Rattle.lists.specs.Account.{Result, refused, accepted, answered, needing}
 use Rattle.lists.specs.{Contract.gone_of, Contract.state_of, Contract.account_of, inner.Held.Held, inner.Held.room_for}
@@ -29,7 +30,7 @@ pub record Roomy (b : Buffer) (size : ℕ) (l : Limits) (run : List ℕ) : Type 
   pub within : l.allocated ≤ length (glyphs run)
 
 abbrev Fitting : Buffer → ℕ → List ℕ → Type 0
-Fitting b size run = room_for (capacity_of (length run)) size b.limits ≡ Fits
+Fitting b size run = room_for (capacity_of (length run)) size b.limits ≡ fitting
 
 module _ (b : Buffer) (run other : List ℕ) (v : Held b run other) where
   pub roomy-grown : (size : ℕ) → Fitting b size run → Roomy b size (grown size b.limits) run
@@ -75,15 +76,15 @@ module _ (b : Buffer) (run other : List ℕ) where
 
   -- "needs size", by the limits of the buffer
   module _ (capacity n : ℕ) (x y : Result ℕ) where
-    pub room_fits : room_for capacity n b.limits ≡ Fits → needing capacity n (account_of b run other) x y ≡ x
+    pub room_fits : room_for capacity n b.limits ≡ fitting → needing capacity n (account_of b run other) x y ≡ x
     unfolding account_of state_of
     room_fits h = needing-fits capacity n (account_of b run other) x y h
 
-    pub room-gives-up : room_for capacity n b.limits ≡ GivesUp → needing capacity n (account_of b run other) x y ≡ y
+    pub room-gives-up : room_for capacity n b.limits ≡ given_up → needing capacity n (account_of b run other) x y ≡ y
     unfolding account_of state_of
     room-gives-up h = needing-gives-up capacity n (account_of b run other) x y h
 
-    pub room-over : room_for capacity n b.limits ≡ Over → needing capacity n (account_of b run other) x y ≡ refused OverCapacity
+    pub room-over : room_for capacity n b.limits ≡ over_capacity → needing capacity n (account_of b run other) x y ≡ refused OverCapacity
     unfolding account_of state_of
     room-over h = needing-over capacity n (account_of b run other) x y h
 
@@ -105,10 +106,10 @@ module _ {h : Account ℕ → Account ℕ} {g f : Buffer} {run other run' other'
   pub move-other : words_from f.limits.allocated other' ≡ words_from f.limits.allocated other
   move-other = subst (λ (l : Limits). words_from l.allocated other' ≡ words_from l.allocated other) (sym w.limits) w.other-beyond
 
-  pub move-accepted : {call : ℕ → Account ℕ → Result ℕ} {b : Buffer} {r : Reply} → g.swapped ≡ b.swapped → call (capacity_of (length run)) (account_of b run other) ≡ accepted (h (account_of g run other)) → r ≡ reply f Done → MeetsIn call b run other r run' other'
+  pub move-accepted : {call : ℕ → Account ℕ → Result ℕ} {b : Buffer} {r : Reply} → g.swapped ≡ b.swapped → call (capacity_of (length run)) (account_of b run other) ≡ accepted (h (account_of g run other)) → r ≡ reply f (Ok None) → MeetsIn call b run other r run' other'
   move-accepted side e er = in-accepted f (w.side ∙ side) move-run move-other w.held (e ∙ ap accepted (sym w.is)) er
 
-  pub move-answered : {call : ℕ → Account ℕ → Result ℕ} {b : Buffer} {r : Reply} → g.swapped ≡ b.swapped → (x : ℕ) → call (capacity_of (length run)) (account_of b run other) ≡ answered x (h (account_of g run other)) → r ≡ reply f (Value x) → MeetsIn call b run other r run' other'
+  pub move-answered : {call : ℕ → Account ℕ → Result ℕ} {b : Buffer} {r : Reply} → g.swapped ≡ b.swapped → (x : ℕ) → call (capacity_of (length run)) (account_of b run other) ≡ answered x (h (account_of g run other)) → r ≡ reply f (Ok (Some x)) → MeetsIn call b run other r run' other'
   move-answered side x e er = in-answered f (w.side ∙ side) move-run move-other w.held x (e ∙ ap (answered x) (sym w.is)) er
 
 pub limits-side : (l : Limits) (b : Buffer) → (with_limits_of l b).swapped ≡ b.swapped

@@ -12,6 +12,7 @@ pub mod CursorCalls
 pub mod Decisions
 pub mod Editing
 pub mod Examples
+pub mod EitherSlice
 pub mod Executable
 pub mod Filling
 pub mod ForwardCalls
@@ -36,6 +37,8 @@ pub mod Sides
 pub mod Simple
 pub mod SizeLaws
 pub mod SoundLaws
+pub mod Storing
 pub mod SyncLaws
+pub mod Tries
 pub mod TurnParts
 pub mod Turns

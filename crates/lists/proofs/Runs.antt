@@ -140,12 +140,13 @@ module _ {slot mask : ℕ} {l : List (Glyph ℕ)} {s e : ℕ} where
 
 -- a loop that goes down over what passes
 pub record Behind (p : ℕ → Bool) (cs : List ℕ) (f s i : ℕ) : Type 0 where
+  pub low : min f s ≤ i
   pub high : i ≤ s
   pub is : tails p (slice f s cs) + i ≡ s + tails p (slice f i cs)
 
 module _ {p : ℕ → Bool} {cs : List ℕ} {f s : ℕ} where
   pub behind-none : Behind p cs f s s
-  behind-none = record { high = omega arith; is = omega arith }
+  behind-none = record { low = omega arith; high = omega arith; is = omega arith }
 
   pub behind_more : {i : ℕ} → Behind p cs f s i → f < i → s ≤ length cs → (c : ℕ) → c ≡ get_or cs (i - 1) 4294967295 → p c ≡ true → Behind p cs f s (i - 1)
   behind_more {i} v o b c ec ty =
@@ -154,9 +155,9 @@ module _ {p : ℕ → Bool} {cs : List ℕ} {f s : ℕ} where
       let k : suc (i - 1) ≡ i = omega arith in
       let w : tails p (slice f (suc (i - 1)) cs) ≡ suc (tails p (slice f (i - 1) cs)) = tails-last p f (i - 1) cs (omega arith) (omega arith) ∙ rw q in
       let w' : tails p (slice f i cs) ≡ suc (tails p (slice f (i - 1) cs)) = rw k at w in
-      record { high = omega arith; is = omega (arith, v.is) }
+      record { low = omega arith; high = omega arith; is = omega (arith, v.is) }
 
-  pub behind-stop : {i : ℕ} → Behind p cs f s i → f < i → s ≤ length cs → (c : ℕ) → c ≡ get_or cs (i - 1) 4294967295 → p c ≡ false → i ≡ s - tails p (slice f s cs)
+  pub behind-stop : {i : ℕ} → Behind p cs f s i → f < i → s ≤ length cs → (c : ℕ) → c ≡ get_or cs (i - 1) 4294967295 → p c ≡ false → i - 1 + 1 ≡ s - tails p (slice f s cs)
   behind-stop {i} v o b c ec tn =
       let high : i ≤ s = v.high in
       let q : p (get_or cs (i - 1) 4294967295) ≡ false = rw ec at tn in
@@ -165,8 +166,8 @@ module _ {p : ℕ → Bool} {cs : List ℕ} {f s : ℕ} where
       let w' : tails p (slice f i cs) ≡ 0 = rw k at w in
       omega (arith, v.is)
 
-  pub behind-done : {i : ℕ} → Behind p cs f s i → i ≤ f → i ≡ s - tails p (slice f s cs)
-  behind-done {i} v o = omega (arith, v.is, tails-none p f i cs o)
+  pub behind-done : {i n : ℕ} → Behind p cs f s i → i ≤ f → n ≡ min f s → n ≡ s - tails p (slice f s cs)
+  behind-done {i} v o en = omega (arith, v.low, v.high, v.is, tails-none p f i cs o)
 
 -- for the proofs of functions
 pub ruleset running = (lowest-none, lowest-less, lowest-stays, lowest-done, keyed-none, keyed-more, keyed-stop, keyed-done, ahead_none, ahead_more, ahead-stop, ahead-done, behind-none, behind_more, behind-stop, behind-done, length-clusters, eq-eqb, ne_eqb)

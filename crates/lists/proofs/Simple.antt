@@ -1,10 +1,11 @@
 -- Laws of the calls on the counters and the cursor that write no word.
+use Rattle.std.specs.Prelude.{Ok, Err, None}
 use mathlib.Core.{Path.◌≡◌, Path.refl, Path.sym, Path.ap, Path.◌∙◌, Bool.Bool, Bool.true, Bool.false, Bool.cond, Bool.not, Bool.beq, Bool.◌&&◌, Bool.false≢true, List.List, List.[], List.◌++◌, List.map}
 use Prim.Native.Nat.{ℕ, ◌+◌, ◌≤◌, ◌<◌}
 use native.Mathlib.Omega.{arith}
 use borrow.Author.Tests.{le-leb, lt-leb, le-ltb, lt-ltb}
 use lib.{Dec.ltb, ListN.length, ListN.take, ListN.drop, ListN.take-append-drop, Seq.slice, Seq.slice_empty, Seq.take-take, Seq.drop-drop}
-use Rattle.records.specs.{Phase, Plain, Output, Positions, Spoiled, Refusal, BadOperand, Done, No, Limits, Answers.no, Answers.refusal_number, Counters.capacity_of, Counters.rightly_lent, Counters.fresh_limits, Glyphs.Glyph, Glyphs.change, Glyphs.with_position, Glyphs.zero_position, View.glyphs, View.positions_in}
+use Rattle.records.specs.{Phase, Plain, Output, Positions, Spoiled, Refusal, BadOperand, Limits, Answers.no, Answers.refusal_number, Counters.capacity_of, Counters.rightly_lent, Counters.fresh_limits, Glyphs.Glyph, Glyphs.change, Glyphs.with_position, Glyphs.zero_position, View.glyphs, View.positions_in}
 use Rattle.records.proofs.View.{glyphs-plain, paired-plain}
 use Rattle.records.proofs.Renaming.{take-map}
 use Rattle.lists.specs.{declared.Buffer.Buffer, declared.Reply.Reply}
@@ -81,14 +82,14 @@ module _ (level wants : ℕ) where
 
 -- the first buffer
 module _ (level wants : ℕ) {b : Buffer} {r : Reply} where
-  pub begins : wants ≤ 7 → b ≡ fresh_buffer level wants → r ≡ reply b Done → Begins level wants r
+  pub begins : wants ≤ 7 → b ≡ fresh_buffer level wants → r ≡ reply b (Ok None) → Begins level wants r
   unfolding fresh outcome
   begins w eb er = rw (er, eb) (record {
     is = λ f s. sym (ap (outcome (fresh_account level 0)) (refuse-no BadOperand _ (ltb 7 wants) (le-ltb 7 wants w) ∙ ap accepted (fresh-account level wants f s)));
     is-sound = fresh-sound level wants;
   })
 
-  pub begins-refused : 7 < wants → b ≡ fresh_buffer level 0 → r ≡ reply b (No BadOperand) → Begins level wants r
+  pub begins-refused : 7 < wants → b ≡ fresh_buffer level 0 → r ≡ reply b (Err BadOperand) → Begins level wants r
   unfolding outcome
   begins-refused w eb er = rw (er, eb) (record {
     is = λ f s. sym (ap (outcome (fresh_account level 0)) (fresh-refused level wants _ w) ∙ ap (λ (a : Account ℕ). record { answer = no (refusal_number BadOperand); after = a }) (fresh-account level 0 f s));

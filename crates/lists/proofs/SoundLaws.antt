@@ -1,16 +1,30 @@
 -- Refusal 1: as the code tests it, and the facts that it leaves.
-use mathlib.Core.{Path.◌≡◌, Path.refl, Path.sym, Path.◌∙◌, Bool.Bool, Bool.true, Bool.false, Bool.cond, Bool.◌&&◌, Bool.◌||◌, Bool.and-eq-true_iff, List.List}
+use Rattle.std.specs.Result.{result_from_control_flow, IsErr, IsErrAnd}
+use Rattle.std.proofs.Common.{Break}
+use Rattle.lists.proofs.Tries.{tried, goes-out, given-back}
+use mathlib.Core.{Path.◌≡◌, Path.refl, Path.sym, Path.ap, Path.subst, Path.◌∙◌, Bool.Bool, Bool.true, Bool.false, Bool.cond, Bool.◌&&◌, Bool.◌||◌, Bool.and-eq-true_iff, List.List}
 use Prim.Native.Nat.{ℕ, ◌≤◌, ◌<◌}
 use native.Mathlib.Decide.{dec_le}
 use native.Mathlib.Omega.{arith}
 use borrow.Author.Tests.{le-leb, lt-leb, leb-true, eqb-true, eq-eqb, ne_eqb}
 use lib.{Dec.eqb, Dec.leb, ListN.length}
-use Rattle.records.specs.{Counters.capacity_of, Counters.rightly_lent, View.glyphs}
+use Rattle.std.specs.Prelude.{Ok, Err}
+use Rattle.records.specs.{Refusal, Contradiction, Counters.capacity_of, Counters.rightly_lent, View.glyphs}
 use Rattle.records.proofs.View.{length-glyphs, glyphs-same, lent_same, lent-whole, lent-most, whole_same}
 use Rattle.lists.specs.declared.Buffer.{Buffer}
 use Rattle.lists.specs.Account.{output_phase}
-use Rattle.lists.specs.{Contract.in_order, Contract.sound, inner.Held.Soundness, inner.Held.Held}
-use Rattle.lists.specs.inner.States.{most_output}
+use Rattle.lists.specs.{Contract.in_order, Contract.sound, inner.Held.Soundness, inner.Held.Test, inner.Held.Tested, inner.Held.Held}
+use Rattle.lists.specs.inner.Verdicts.{Turned}
+use Rattle.lists.specs.inner.States.{Decision, most_output}
+
+OkCode : Test → Type 0
+OkCode r = elim r [ Ok x ↦ Unit {0} | Err why ↦ ⊥ ]
+
+ErrCode : Test → Type 0
+ErrCode r = elim r [ Ok x ↦ ⊥ | Err why ↦ Unit {0} ]
+
+why-of : Test → Refusal
+why-of r = elim r [ Ok x ↦ Contradiction | Err why ↦ why ]
 
 -- ---- refusal 1, as the code tests it
 and_none : (x : Bool) → x && false ≡ false
@@ -168,8 +182,36 @@ module _ {b : Buffer} {f s : List ℕ} {t : Bool} (w : Soundness b f s t) where
   pub held-second : t ≡ true → Held b s f
   held-second h = held-turned b f s (held_first h)
 
+-- refusal 1 as the code answers it
+abbrev TestedAs : Bool → Test → Type 0
+TestedAs x u = elim u [ Ok y ↦ x ≡ true | Err why ↦ (x ≡ false) × (why ≡ Contradiction) ]
+
+tested-by : (x : Bool) {t : Test} → t ≡ cond x (Ok tt) (Err Contradiction) → (u : Test) → t ≡ u → TestedAs x u
+unfolding OkCode ErrCode why-of
+tested-by true e (Ok y) h = refl
+tested-by true e (Err why) h = absurd (subst OkCode (sym e ∙ h) tt)
+tested-by false e (Ok y) h = absurd (subst ErrCode (sym e ∙ h) tt)
+tested-by false e (Err why) h = (refl, ap why-of (sym h ∙ e))
+
+module _ {b : Buffer} {f s : List ℕ} {t : Test} (w : Tested b f s t) where
+  pub tests-sound : {y : Unit {0}} → t ≡ Ok y → sound b f s ≡ true
+  tests-sound {y} h = tested-by (sound b f s) w.is (Ok y) h
+
+  tests-out : {why : Refusal} → t ≡ Err why → (sound b f s ≡ false) × (why ≡ Contradiction)
+  tests-out {why} h = tested-by (sound b f s) w.is (Err why) h
+
+  module _ {p : _} (out : t ≡ result_from_control_flow p) {z : _} (e : p ≡ Break z) where
+    pub tests-unsound : sound b f s ≡ false
+    tests-unsound = (tests-out (goes-out out e)).0
+
+    pub tests-err : (v : Decision) → IsErr v × IsErrAnd v (λ (y : Refusal). y ≡ z.0) → Turned Contradiction v
+    tests-err v h = record { is = given-back v h ∙ ap Err (tests-out (goes-out out e)).1 }
+
+pub tests-as : {b : Buffer} {f s : List ℕ} {x : Bool} {t : Test} → Soundness b f s x → t ≡ cond x (Ok tt) (Err Contradiction) → Tested b f s t
+tests-as w e = record { is = rw (← w.is) e }
+
 -- for the proofs of functions
-pub ruleset soundness = (is-sound, is-unsound, held_first, held-second)
+pub ruleset soundness = (is-sound, is-unsound, held_first, held-second, tests-sound, tests-unsound, tests-err, tried)
 
 pub ruleset ordering = (order-idx, order-len, order-all, order-most, tested-whole, tested-lent)
 

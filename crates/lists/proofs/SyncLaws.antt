@@ -1,10 +1,11 @@
 -- What `sync` and `next_glyphs` with output leave, from what they move.
+use Rattle.std.specs.Prelude.{Ok, Err, Some, None}
 use mathlib.Core.{Path.◌≡◌, Path.refl, Path.sym, Path.ap, Path.◌∙◌, Bool.Bool, Bool.true, Bool.false, Bool.cond, Bool.not, Bool.false≢true, List.List, List.[]}
 use Prim.Native.Nat.{ℕ, ◌+◌, ◌-◌, ◌≤◌}
 use native.Mathlib.Omega.{arith}
 use lib.{Dec.ltb, ListN.length, ListN.take, ListN.drop, Seq.take-nil, Seq.drop-nil}
-use Rattle.records.specs.{Plain, Spoiled, WrongPhase, OverCapacity, Done, Value, No, Limits, Counters.capacity_of, Counters.failed, Counters.grown, Glyphs.Glyph, View.glyphs, View.words_from}
-use Rattle.lists.specs.{declared.Buffer.Buffer, declared.Reply.Reply, declared.Room.TheVariants.Fits, declared.Room.TheVariants.GivesUp, declared.Room.TheVariants.Over}
+use Rattle.records.specs.{Plain, Spoiled, WrongPhase, OverCapacity, Limits, Counters.capacity_of, Counters.failed, Counters.grown, Glyphs.Glyph, View.glyphs, View.words_from}
+use Rattle.lists.specs.{declared.Buffer.Buffer, declared.Reply.Reply, inner.Held.fitting, inner.Held.given_up, inner.Held.over_capacity}
 use Rattle.lists.specs.Account.{Account, in_phase, with_gone, output_phase, spoiled_phase, has_output, is_spoiled, len, out_length, failing, sized, read_level}
 use Rattle.lists.specs.Account.{refuse◌when◌else◌, Result, refused, accepted, answered, outcome, needing}
 use Rattle.lists.specs.{Contract.shown, Contract.gone_of, Contract.state_of, Contract.account_of, inner.Held.Held, inner.Held.room_for}
@@ -46,10 +47,10 @@ module _ {b : Buffer} {n : ℕ} {run other : List ℕ} (v : NextOutput b n run o
   unfolding with_limits_of
   forwardable l q = record { held = held-limits b run other v.held l q.grows q.within; output = v.output; in_len = v.in_len; in_size = q.room }
 
-  pub next-ready : {l : Limits} {g : Buffer} → room_for (capacity_of (length run)) (b.out_len.0 + n) b.limits ≡ Fits → l ≡ grown (b.out_len.0 + n) b.limits → g ≡ with_limits_of l b → Forwardable g n run other
+  pub next-ready : {l : Limits} {g : Buffer} → room_for (capacity_of (length run)) (b.out_len.0 + n) b.limits ≡ fitting → l ≡ grown (b.out_len.0 + n) b.limits → g ≡ with_limits_of l b → Forwardable g n run other
   next-ready h el eg = rw (eg, el) (forwardable _ (roomy-grown b run other v.held _ h))
 
-  pub next-moves : {r : Reply} {l : Limits} {g f : Buffer} {run' other' : List ℕ} → room_for (capacity_of (length run)) (b.out_len.0 + n) b.limits ≡ Fits → l ≡ grown (b.out_len.0 + n) b.limits → g ≡ with_limits_of l b → Moves (moved n) g run other f run' other' → r ≡ reply f Done → MeetsIn (λ capacity a. next_glyphs capacity n a) b run other r run' other'
+  pub next-moves : {r : Reply} {l : Limits} {g f : Buffer} {run' other' : List ℕ} → room_for (capacity_of (length run)) (b.out_len.0 + n) b.limits ≡ fitting → l ≡ grown (b.out_len.0 + n) b.limits → g ≡ with_limits_of l b → Moves (moved n) g run other f run' other' → r ≡ reply f (Ok None) → MeetsIn (λ capacity a. next_glyphs capacity n a) b run other r run' other'
   next-moves {r} {l} {g} {f} {run'} {other'} h el eg w er =
       let w' : Moves (moved n) (with_limits_of (grown (b.out_len.0 + n) b.limits) b) run other f run' other' = rw (eg, el) at w in
       move-accepted w' (limits-side (grown (b.out_len.0 + n) b.limits) b)
@@ -114,7 +115,7 @@ swapped-of x f run other e = by_side f.have_separate_output x f.swapped e
 -- a call whose last act is that: f is the buffer before it
 in-swapped : {call : ℕ → Account ℕ → Result ℕ} {b : Buffer} {run other run' other' : List ℕ} {r : Reply} (f : Buffer) → f.swapped ≡ b.swapped
     → words_from f.limits.allocated run' ≡ words_from f.limits.allocated run → words_from f.limits.allocated other' ≡ words_from f.limits.allocated other → Held f run other
-    → call (capacity_of (length run)) (account_of b run other) ≡ answered 1 (output_as_run (account_of f run' other')) → r ≡ reply (swapped_buffer f) (Value 1) → MeetsIn call b run other r run' other'
+    → call (capacity_of (length run)) (account_of b run other) ≡ answered 1 (output_as_run (account_of f run' other')) → r ≡ reply (swapped_buffer f) (Ok (Some 1)) → MeetsIn call b run other r run' other'
 unfolding outcome swapped_buffer
 in-swapped {call} {b} {run} {other} {run'} {other'} f side br bo v e er = rw er (record {
   is = rw (swapped-of b.swapped f run' other' side) (sym (ap (outcome (account_of b run other)) e));
@@ -125,14 +126,14 @@ in-swapped {call} {b} {run} {other} {run'} {other'} f side br bo v e er = rw er 
 })
 
 module _ {b : Buffer} {run other : List ℕ} {r : Reply} (v : Held b run other) where
-  pub sync-in-none : output_phase b.phase ≡ false → r ≡ reply b (No WrongPhase) → MeetsIn (λ capacity a. sync capacity a) b run other r run other
+  pub sync-in-none : output_phase b.phase ≡ false → r ≡ reply b (Err WrongPhase) → MeetsIn (λ capacity a. sync capacity a) b run other r run other
   sync-in-none h er = in-refused WrongPhase (sync-none _ _ (output-of b run other ∙ h)) v er
 
-  pub sync-in-spoils : {b' : Buffer} → output_phase b.phase ≡ true → b.limits.successful ≡ false → b' ≡ spoiled_buffer b → r ≡ reply b' (Value 0) → MeetsIn (λ capacity a. sync capacity a) b run other r run other
+  pub sync-in-spoils : {b' : Buffer} → output_phase b.phase ≡ true → b.limits.successful ≡ false → b' ≡ spoiled_buffer b → r ≡ reply b' (Ok (Some 0)) → MeetsIn (λ capacity a. sync capacity a) b run other r run other
   sync-in-spoils h k eb er =
       in-answered (spoiled_buffer b) (spoiled-side b) refl refl (held-spoiled b run other v) 0
       (sync-spoils _ _ (output-of b run other ∙ h) (ap (λ (l : Limits). l.successful) (limits_of b run other) ∙ k) ∙ ap (answered 0) (sym (spoiling-of b run other v h)))
-      (er ∙ ap (λ (x : Buffer). reply x (Value 0)) eb)
+      (er ∙ ap (λ (x : Buffer). reply x (Ok (Some 0))) eb)
 
 module _ {b : Buffer} {run other : List ℕ} (v : Syncable b run other) where
   abbrev sync-size : ℕ
@@ -143,24 +144,24 @@ module _ {b : Buffer} {run other : List ℕ} (v : Syncable b run other) where
       sync-needs _ _ (output-of b run other ∙ v.output) (b.len.0 - b.idx.0) sync-size (rest_of b run other v.held (output-clean b.phase v.output)) (ap (λ (j : ℕ). j + (b.len.0 - b.idx.0)) (out_of b run other v.held))
       (ap (λ (l : Limits). l.successful) (limits_of b run other) ∙ v.successful)
 
-  pub sync-over : {r : Reply} → room_for (capacity_of (length run)) sync-size b.limits ≡ Over → r ≡ reply b (No OverCapacity) → MeetsIn (λ capacity a. sync capacity a) b run other r run other
+  pub sync-over : {r : Reply} → room_for (capacity_of (length run)) sync-size b.limits ≡ over_capacity → r ≡ reply b (Err OverCapacity) → MeetsIn (λ capacity a. sync capacity a) b run other r run other
   sync-over h er = in-refused OverCapacity (sync-room ∙ room-over b run other _ _ _ _ h) v.held er
 
-  pub sync-gives-up : {r : Reply} {l : Limits} {g f : Buffer} → room_for (capacity_of (length run)) sync-size b.limits ≡ GivesUp → l ≡ failed b.limits → g ≡ with_limits_of l b → f ≡ swapped_buffer g → r ≡ reply f (Value 1) → MeetsIn (λ capacity a. sync capacity a) b run other r run other
+  pub sync-gives-up : {r : Reply} {l : Limits} {g f : Buffer} → room_for (capacity_of (length run)) sync-size b.limits ≡ given_up → l ≡ failed b.limits → g ≡ with_limits_of l b → f ≡ swapped_buffer g → r ≡ reply f (Ok (Some 1)) → MeetsIn (λ capacity a. sync capacity a) b run other r run other
   sync-gives-up h el eg ef er =
       in-swapped (with_limits_of (failed b.limits) b) (limits-side (failed b.limits) b) refl refl (held-failed b run other v.held)
       (sync-room ∙ (room-gives-up b run other _ _ _ _ h ∙ ap (λ (a : Account ℕ). answered 1 (output_as_run a)) (sym (failing-of b run other))))
-      (er ∙ ap (λ (x : Buffer). reply x (Value 1)) (ef ∙ ap swapped_buffer (eg ∙ ap (λ (x : Limits). with_limits_of x b) el)))
+      (er ∙ ap (λ (x : Buffer). reply x (Ok (Some 1))) (ef ∙ ap swapped_buffer (eg ∙ ap (λ (x : Limits). with_limits_of x b) el)))
 
   sync-next : NextOutput b (b.len.0 - b.idx.0) run other
   sync-next = record { held = v.held; output = v.output; in_len = omega (arith, v.held.idx-in) }
 
-  pub sync-ready : {l : Limits} {g : Buffer} → room_for (capacity_of (length run)) sync-size b.limits ≡ Fits → l ≡ grown sync-size b.limits → g ≡ with_limits_of l b → Forwardable g (b.len.0 - b.idx.0) run other
+  pub sync-ready : {l : Limits} {g : Buffer} → room_for (capacity_of (length run)) sync-size b.limits ≡ fitting → l ≡ grown sync-size b.limits → g ≡ with_limits_of l b → Forwardable g (b.len.0 - b.idx.0) run other
   sync-ready h el eg = next-ready sync-next h el eg
 
-  pub sync-moves : {r : Reply} {l : Limits} {g f t : Buffer} {run' other' : List ℕ} → room_for (capacity_of (length run)) sync-size b.limits ≡ Fits → l ≡ grown sync-size b.limits → g ≡ with_limits_of l b → Moves (moved (b.len.0 - b.idx.0)) g run other f run' other' → t ≡ swapped_buffer f → r ≡ reply t (Value 1) → MeetsIn (λ capacity a. sync capacity a) b run other r run' other'
+  pub sync-moves : {r : Reply} {l : Limits} {g f t : Buffer} {run' other' : List ℕ} → room_for (capacity_of (length run)) sync-size b.limits ≡ fitting → l ≡ grown sync-size b.limits → g ≡ with_limits_of l b → Moves (moved (b.len.0 - b.idx.0)) g run other f run' other' → t ≡ swapped_buffer f → r ≡ reply t (Ok (Some 1)) → MeetsIn (λ capacity a. sync capacity a) b run other r run' other'
   sync-moves {r} {l} {g} {f} {t} {run'} {other'} h el eg w et er =
       let w' : Moves (moved (b.len.0 - b.idx.0)) (with_limits_of (grown sync-size b.limits) b) run other f run' other' = rw (eg, el) at w in
       in-swapped f (w'.side ∙ limits-side (grown sync-size b.limits) b) (move-run w') (move-other w') w'.held
       (sync-room ∙ (room_fits b run other _ _ _ _ h ∙ ap (λ (a : Account ℕ). answered 1 (output_as_run a)) (ap (moved (b.len.0 - b.idx.0)) (sym (sized_of b run other sync-size)) ∙ sym w'.is)))
-      (er ∙ ap (λ (x : Buffer). reply x (Value 1)) et)
+      (er ∙ ap (λ (x : Buffer). reply x (Ok (Some 1))) et)

@@ -98,42 +98,24 @@ pub record Turning {A : Type 0} (l₀ : List A) (s e : ℕ) (l : List A) (i j : 
   pub fits : j ≤ length l
   pub is : turned i j l ≡ turned s e l₀
 
--- k exchanges are still to make
-pub record Halved (i j k : ℕ) : Type 0 where
-  pub most : i + k + k ≤ j
-  pub least : j ≤ i + k + k + 1
+-- k exchanges are made, of half as many as lie in the range
+module _ (s e : ℕ) {k : ℕ} (o : k < (e - s) / 2) where
+  halved : s + k + 1 < e - k
+  halved =
+      let d : (e - s) / 2 * 2 + (e - s) % 2 ≡ e - s = div-add-mod' (e - s) 2 in
+      omega arith
 
-pub halved_none : {s e : ℕ} → s ≤ e → Halved s e ((e - s) / 2)
-halved_none {s} {e} o =
-    let d : (e - s) / 2 * 2 + (e - s) % 2 ≡ e - s = div-add-mod' (e - s) 2 in
-    let m : (e - s) % 2 < 2 = mod-lt (e - s) (omega arith) in
-    record { most = omega arith; least = omega arith }
+  pub exchange-low : s + k < e
+  exchange-low = omega (arith, halved)
 
-module _ {i j k : ℕ} (v : Halved i j k) where
-  pub halved-room : 0 < k → i + 1 < j
-  halved-room o = omega (arith, v.most)
-
-  pub halved-more : 0 < k → Halved (i + 1) (j - 1) (k - 1)
-  halved-more o = record { most = omega (arith, v.most); least = omega (arith, v.least) }
-
-  pub halved-done : k ≤ 0 → j ≤ i + 1
-  halved-done o = omega (arith, v.least)
-
-  pub halved-last : 0 < k → 1 ≤ j
-  halved-last o = omega (arith, v.most)
-
-module _ {A : Type 0} {l₀ l : List A} {s e i j k : ℕ} (v : Turning l₀ s e l i j) (w : Halved i j k) (o : 0 < k) where
-  pub turning-first : i < length l
-  turning-first = omega (arith, v.fits, w.most)
-
-  pub turning-last : j - 1 < length l
-  turning-last = omega (arith, v.fits, w.most)
+  pub exchange-high : 1 + k ≤ e
+  exchange-high = omega (arith, halved)
 
 module _ {A : Type 0} where
-  pub turning-none : {l : List A} {s e : ℕ} → s ≤ e → e ≤ length l → Turning l s e l s e
+  turning-none : {l : List A} {s e : ℕ} → s ≤ e → e ≤ length l → Turning l s e l s e
   turning-none o b = record { order = o; fits = b; is = refl }
 
-  pub turning-more : (d : A) {l₀ l l' : List A} {s e i j : ℕ} → Turning l₀ s e l i j → i + 1 < j → l' ≡ exchange d i (j - 1) l → Turning l₀ s e l' (i + 1) (j - 1)
+  turning-more : (d : A) {l₀ l l' : List A} {s e i j : ℕ} → Turning l₀ s e l i j → i + 1 < j → l' ≡ exchange d i (j - 1) l → Turning l₀ s e l' (i + 1) (j - 1)
   turning-more d {l₀} {l} {l'} {s} {e} {i} {j} v o es =
       let fits : j ≤ length l = v.fits in
       let same : length l' ≡ length l = rw es (length-set (set l i (get_or l (j - 1) d)) (j - 1) (get_or l i d) ∙ length-set l i (get_or l (j - 1) d)) in
@@ -141,12 +123,33 @@ module _ {A : Type 0} where
       let step : turned (suc i) (j - 1) (exchange d i (j - 1) l) ≡ turned i j l = turned-step d i (j - 1) l (omega arith) (omega arith) ∙ ap (λ (n : ℕ). turned i n l) k in
       record { order = omega arith; fits = omega arith; is = rw (add-one, es) (step ∙ v.is) }
 
-  pub turning-done : {l₀ l : List A} {s e i j : ℕ} → Turning l₀ s e l i j → j ≤ i + 1 → l ≡ turned s e l₀
+  turning-done : {l₀ l : List A} {s e i j : ℕ} → Turning l₀ s e l i j → j ≤ i + 1 → l ≡ turned s e l₀
   turning-done {l₀} {l} {s} {e} {i} {j} v o = sym (turned-few i j l v.order (rw add-one at o) v.fits) ∙ v.is
+
+  pub turning-begun : {l : List A} {s e : ℕ} → s ≤ e → e ≤ length l → Turning l s e l (s + 0) (e - 0)
+  turning-begun {l} {s} {e} o b =
+      let ks : s + 0 ≡ s = omega arith in
+      let ke : e - 0 ≡ e = omega arith in
+      rw (ks, ke) (turning-none o b)
+
+  pub turning-on : (d : A) {l₀ l l' : List A} {s e k : ℕ} → Turning l₀ s e l (s + k) (e - k) → k < (e - s) / 2 → l' ≡ exchange d (s + k) (e - 1 - k) l → Turning l₀ s e l' (s + (k + 1)) (e - (k + 1))
+  turning-on d {l₀} {l} {l'} {s} {e} {k} v o es =
+      let c : e - 1 - k ≡ e - k - 1 = omega arith in
+      let kl : s + (k + 1) ≡ s + k + 1 = omega arith in
+      let kh : e - (k + 1) ≡ e - k - 1 = omega arith in
+      rw (kl, kh) (turning-more d v (halved s e o) (rw c at es))
+
+  pub turning-ends : {l₀ l : List A} {s e k : ℕ} → Turning l₀ s e l (s + k) (e - k) → (e - s) / 2 ≤ k → l ≡ turned s e l₀
+  turning-ends {l₀} {l} {s} {e} {k} v o =
+      let d : (e - s) / 2 * 2 + (e - s) % 2 ≡ e - s = div-add-mod' (e - s) 2 in
+      let m : (e - s) % 2 < 2 = mod-lt (e - s) (omega arith) in
+      turning-done v (omega arith)
 
   -- two loads and two stores
   pub exchange-is : (l₀ l₁ : List A) {l₂ : List A} {x y a b : A} (i j : ℕ) → l₁ ≡ set l₀ i y → l₂ ≡ set l₁ j x → x ≡ a → y ≡ b → l₂ ≡ set (set l₀ i b) j a
   exchange-is l₀ l₁ i j e₁ e₂ ea eb = e₂ ∙ rw (e₁, ea, eb)
 
 -- for the proofs of functions
-pub ruleset turning = (turning-none, turning-done, turning-first, turning-last, halved_none, halved-room, halved-more, halved-done, halved-last)
+pub ruleset turning = (turning-begun, turning-ends, exchange-low, exchange-high)
+
+pub ruleset exchanging = (exchange-is)

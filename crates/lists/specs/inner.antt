@@ -7,3 +7,4 @@ pub mod Turned
 pub mod Filled
 pub mod Insertion
 pub mod Masks
+pub mod Swapping

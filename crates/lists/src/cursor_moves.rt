@@ -1,89 +1,93 @@
 // What `move_to` comes to: 10.
 ghost use Rattle.std.specs.Prelude.{◌≡◌, ◌+◌, ◌-◌, ◌≤◌, ◌<◌, ◌^◌};
-ghost use Rattle.lists.specs.inner.Moving.{Opened, Forwarding, BackOver, Forwards, Backs, Shifts, MovesForward, MovesBack, MovesTo};
+ghost use Rattle.lists.specs.inner.Moving.{Opened, Forwarding, BackOver, Forwards, Backs, Shifts, MovesForward, MovesBack, MovesTo, len_of, out_len_of};
 
-use super::{Buffer, Room, Verdict, state, verdicts};
-use records::{Answer, Refusal};
+use super::{Buffer, Decision, state, verdicts};
+use records::Refusal;
 
 // Forward by n, once the size is there and its cost is paid.
-fn paid_forward(b: Buffer, size: usize, n: usize) -> Verdict
+#[inline(always)]
+fn paid_forward(b: Buffer, size: usize, n: usize) -> Decision
     requires { (size ≡ b.out_len.0 + n) × (b.idx.0 + n < 2 ^ 64) }
     ensures { Forwards n b result }
 {
-    let limits = records::counters::pay(records::counters::grow(b.limits, size), n);
+    let limits = b.limits.grow(size).pay(n);
     let paid = state::with_limits(b, limits);
     if records::counters::is_negative(limits.max_ops) {
-        return verdicts::verdict(paid, false, Answer::Value(0));
+        return verdicts::leaves(paid, false, Some(0));
     }
     let after = state::at_places(paid, b.idx.0 + n, b.len.0, size);
-    verdicts::verdict(after, true, Answer::Value(1))
+    verdicts::leaves(after, true, Some(1))
 }
 
 // Forward by n, with output.
-fn forward_verdict(b: Buffer, first: &[u32], second: &[u32], n: usize) -> Verdict
+#[inline(always)]
+fn forward_verdict(b: Buffer, first: &[u32], second: &[u32], n: usize) -> Decision
     requires { Forwarding b n first.now second.now }
     ensures { MovesForward n b first.now second.now result }
 {
     let size = b.out_len.0 + n;
-    let room = state::room_for(b.limits, records::glyphs::capacity(first), size);
-    match room {
-        Room::Fits => paid_forward(b, size, n),
-        Room::GivesUp => verdicts::fails(b, Answer::Value(0)),
-        Room::Over => verdicts::refused(b, Refusal::OverCapacity),
+    let fits = state::room_for(b.limits, records::glyphs::capacity(first), size)?;
+    if fits {
+        return paid_forward(b, size, n);
     }
+    verdicts::fails(b, Some(0))
 }
 
 // Back by n, which the cursor has room for, once its cost is paid. `shifts`: the input has gone up for it.
-fn paid_back(b: Buffer, n: usize, shifts: bool) -> Verdict
+#[inline(always)]
+fn paid_back(b: Buffer, n: usize, shifts: bool) -> Decision
     requires { (n ≤ b.idx.0) × (n ≤ b.out_len.0) }
     ensures { Backs n shifts b result }
 {
-    let limits = records::counters::pay(b.limits, n);
+    let limits = b.limits.pay(n);
     let paid = state::with_limits(b, limits);
     if records::counters::is_negative(limits.max_ops) {
-        return verdicts::verdict(paid, shifts, Answer::Value(0));
+        return verdicts::leaves(paid, shifts, Some(0));
     }
     let after = state::at_places(paid, b.idx.0 - n, b.len.0, b.out_len.0 - n);
-    verdicts::verdict(after, true, Answer::Value(1))
+    verdicts::leaves(after, true, Some(1))
 }
 
 // The input goes up, once the size is there and its cost is paid, so that there is room to go back by n.
-fn paid_shift(b: Buffer, size: usize, n: usize) -> Verdict
+#[inline(always)]
+fn paid_shift(b: Buffer, size: usize, n: usize) -> Decision
     requires { (size ≡ (b.len.0 - b.idx.0) + n) × (b.idx.0 ≤ b.len.0) × (n ≤ b.out_len.0) }
     ensures { Shifts n b result }
 {
     let left = b.len.0 - b.idx.0;
-    let limits = records::counters::pay(records::counters::grow(b.limits, size), left);
+    let limits = b.limits.grow(size).pay(left);
     let paid = state::with_limits(b, limits);
     if records::counters::is_negative(limits.max_ops) {
-        return verdicts::verdict(paid, false, Answer::Value(0));
+        return verdicts::leaves(paid, false, Some(0));
     }
     let up = state::at_places(paid, n, size, b.out_len.0);
     paid_back(up, n, true)
 }
 
 // Back by n over the start of the input: first it goes up.
-fn back_over_verdict(b: Buffer, first: &[u32], second: &[u32], n: usize) -> Verdict
+#[inline(always)]
+fn back_over_verdict(b: Buffer, first: &[u32], second: &[u32], n: usize) -> Decision
     requires { BackOver b n first.now second.now }
     ensures { MovesBack n b first.now second.now result }
 {
     let size = (b.len.0 - b.idx.0) + n;
-    let room = state::room_for(b.limits, records::glyphs::capacity(first), size);
-    match room {
-        Room::Fits => paid_shift(b, size, n),
-        Room::GivesUp => verdicts::fails(b, Answer::Value(0)),
-        Room::Over => verdicts::refused(b, Refusal::OverCapacity),
+    let fits = state::room_for(b.limits, records::glyphs::capacity(first), size)?;
+    if fits {
+        return paid_shift(b, size, n);
     }
+    verdicts::fails(b, Some(0))
 }
 
 // With output the place counts the output and the rest of the input together.
-fn move_output_verdict(b: Buffer, first: &[u32], second: &[u32], i: usize) -> Verdict
+#[inline(always)]
+fn move_output_verdict(b: Buffer, first: &[u32], second: &[u32], i: usize) -> Decision
     requires { Opened b first.now second.now }
     ensures { MovesTo i b first.now second.now result }
 {
     let out_len = b.out_len.0;
     if out_len + (b.len.0 - b.idx.0) < i {
-        return verdicts::refused(b, Refusal::OutOfRange);
+        return Err(Refusal::OutOfRange);
     }
     if b.limits.successful {
         if out_len < i {
@@ -96,31 +100,46 @@ fn move_output_verdict(b: Buffer, first: &[u32], second: &[u32], i: usize) -> Ve
             }
             return paid_back(b, n, false);
         }
-        return verdicts::verdict(b, false, Answer::Value(1));
+        return verdicts::leaves(b, false, Some(1));
     }
-    verdicts::verdict(b, false, Answer::Value(0))
+    verdicts::leaves(b, false, Some(0))
 }
 
-pub(crate) fn move_verdict(b: Buffer, first: &[u32], second: &[u32], i: usize) -> Verdict
+#[inline(always)]
+pub(crate) fn move_verdict(b: Buffer, first: &[u32], second: &[u32], i: usize) -> Decision
     ensures { MovesTo i b first.now second.now result }
 {
-    if state::is_sound(b, first, second) {
-        let phase = b.phase;
-        if state::is_spoiled(phase) {
-            return verdicts::refused(b, Refusal::WrongPhase);
-        }
-        if state::have_output(phase) {
-            return move_output_verdict(b, first, second, i);
-        }
-        let len = b.len.0;
-        if len < i {
-            return verdicts::refused(b, Refusal::OutOfRange);
-        }
-        return verdicts::verdict(
-            state::at_places(b, i, len, b.out_len.0),
-            false,
-            Answer::Value(1),
-        );
+    state::sound(b, first, second)?;
+    let phase = b.phase;
+    if state::is_spoiled(phase) {
+        return Err(Refusal::WrongPhase);
     }
-    verdicts::refused(b, Refusal::Contradiction)
+    if state::have_output(phase) {
+        return move_output_verdict(b, first, second, i);
+    }
+    let len = b.len.0;
+    if len < i {
+        return Err(Refusal::OutOfRange);
+    }
+    verdicts::leaves(state::at_places(b, i, len, b.out_len.0), false, Some(1))
+}
+
+// The end of the input after the move.
+pub(crate) fn len_after(decision: Decision) -> usize
+    ensures { result ≡ len_of decision }
+{
+    match decision {
+        Ok(v) => v.len,
+        Err(_) => 0,
+    }
+}
+
+// The end of the output after it.
+pub(crate) fn out_len_after(decision: Decision) -> usize
+    ensures { result ≡ out_len_of decision }
+{
+    match decision {
+        Ok(v) => v.out_len,
+        Err(_) => 0,
+    }
 }

@@ -8,18 +8,17 @@ ghost use Rattle.records.specs.View.{glyphs};
 use super::ranges;
 
 // A glyph with a nonzero key continues its grapheme.
+#[tactic(auto, using(crate::proofs::Runs::running))]
 pub fn grapheme_end(ws: &[u32], s: usize, e: usize, slot: u32, mask: u32) -> usize
     requires { (s < e) × (e ≤ length (glyphs ws.now)) }
     ensures { result ≡ s + 1 + heads (isnt 0) (slice (s + 1) e (map (key slot mask) (infos (glyphs ws.now)))) }
 {
-    let mut i = s + 1;
-    while i < e {
+    for i in s + 1..e {
         if records::glyphs::key_at(ws, i, slot, mask) == 0 {
             return i;
         }
-        i += 1;
     }
-    i
+    e
 }
 
 // Neighbours of one cluster.

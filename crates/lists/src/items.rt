@@ -10,26 +10,25 @@ use super::{Buffer, Item, state};
 use records::Phase;
 
 // How much of the input no list shows.
+#[tactic(auto, unfolding(crate::specs::Contract::gone_of))]
 fn gone(b: Buffer) -> usize
     ensures { result ≡ gone_of b }
 {
-    let phase = b.phase;
-    match phase {
-        Phase::Plain => 0,
+    match b.phase {
+        Phase::Plain | Phase::Positions => 0,
         Phase::Output => b.idx.0,
-        Phase::Positions => 0,
         Phase::Spoiled => b.len.0,
     }
 }
 
 // How many there are.
+#[tactic(auto, using(crate::proofs::ItemLaws::showing))]
 pub fn item_count(b: Buffer, first: &[u32], second: &[u32]) -> usize
     ensures { result ≡ cond (sound b first.now second.now) (length (items (account b first.now second.now))) 0 }
 {
     if state::is_sound(b, first, second) {
         let n = b.len.0 - gone(b);
-        let phase = b.phase;
-        if state::have_positions(phase) {
+        if state::have_positions(b.phase) {
             return n + n;
         }
         return b.out_len.0 + n;
@@ -42,11 +41,8 @@ fn position_item(b: Buffer, other: &[u32], k: usize) -> Item
     requires { b.len.0 ≤ length (positions_in other.now) }
     ensures { result ≡ get_or (map OfPosition (cond (positions_phase b.phase) (take b.len.0 (positions_in other.now)) [])) k Nothing }
 {
-    let phase = b.phase;
-    if state::have_positions(phase) {
-        if k < b.len.0 {
-            return Item::OfPosition(records::positions::get(other, k));
-        }
+    if state::have_positions(b.phase) && k < b.len.0 {
+        return Item::OfPosition(records::positions::get(other, k));
     }
     Item::Nothing
 }
@@ -69,6 +65,7 @@ fn input_item(b: Buffer, run: &[u32], other: &[u32], k: usize) -> Item
 }
 
 // Of the slice that holds the run, and the other.
+#[tactic(auto, using(crate::proofs::ItemLaws::showing))]
 fn item_in(b: Buffer, run: &[u32], other: &[u32], k: usize) -> Item
     requires { Held b run.now other.now }
     ensures { result ≡ get_or (items (account_of b run.now other.now)) k Nothing }
@@ -84,6 +81,7 @@ fn item_in(b: Buffer, run: &[u32], other: &[u32], k: usize) -> Item
 }
 
 // The k-th of them, counted from 0.
+#[tactic(auto, using(crate::proofs::ItemLaws::showing, crate::proofs::SoundLaws::soundness))]
 pub fn item(b: Buffer, first: &[u32], second: &[u32], k: usize) -> Item
     ensures { result ≡ cond (sound b first.now second.now) (get_or (items (account b first.now second.now)) k Nothing) Nothing }
 {

@@ -2,7 +2,7 @@
 
 #![tactic(auto)]
 
-use records::{Answer, DonePlace, GlyphInfo, InputPlace, Limits, Phase, Position};
+use records::{Answer, DonePlace, GlyphInfo, InputPlace, Limits, Phase, Position, Refusal};
 
 pub mod cursor;
 pub mod items;
@@ -21,6 +21,7 @@ pub mod ranges;
 pub mod reversals;
 pub mod rotation;
 pub mod state;
+pub mod swapping;
 pub mod verdicts;
 
 // The state of a buffer, beside the two slices that are lent to every call. specs/Contract.antt says which account it is.
@@ -41,6 +42,16 @@ pub struct Buffer {
     pub level: u32,
 }
 
+// Where the lists of a buffer lie: the cursor, the end of the input, the end of the output, and whether the output lies in the slice that
+// does not hold the run.
+#[derive(Clone, Copy)]
+pub struct Lists {
+    pub idx: usize,
+    pub len: usize,
+    pub out_len: usize,
+    pub separate: bool,
+}
+
 // What a call gives back.
 #[derive(Clone, Copy)]
 pub struct Reply {
@@ -48,8 +59,8 @@ pub struct Reply {
     pub answer: Answer,
 }
 
-// What a call comes to, before a word is written: the places and limits that it leaves, whether its output moves to the slice that does not
-// hold the run, whether glyphs are written for it, and its answer.
+// What an accepted call comes to, before a word is written: the places and limits that it leaves, whether its output moves to the slice that
+// does not hold the run, whether glyphs are written for it, and the value that it answers.
 #[derive(Clone, Copy)]
 pub struct Verdict {
     pub idx: usize,
@@ -58,16 +69,11 @@ pub struct Verdict {
     pub limits: Limits,
     pub apart: bool,
     pub acts: bool,
-    pub answer: Answer,
+    pub value: Option<u32>,
 }
 
-// Whether a needed size is there.
-#[derive(Clone, Copy)]
-pub enum Room {
-    Fits,
-    GivesUp,
-    Over,
-}
+// What a call comes to: a verdict, or why it is turned back.
+pub type Decision = Result<Verdict, Refusal>;
 
 // One of the things that a buffer shows: a glyph of a list, or a position.
 #[derive(Clone, Copy)]

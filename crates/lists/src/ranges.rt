@@ -6,14 +6,13 @@ ghost use Rattle.records.specs.Ranges.{clusters, edit, is, isnt, least, heads, t
 ghost use Rattle.records.specs.View.{glyphs};
 
 // The least cluster of a range.
+#[tactic(auto, using(crate::proofs::Runs::running))]
 pub fn least_cluster(ws: &[u32], s: usize, e: usize) -> u32
     requires { (s ≤ e) × (e ≤ length (glyphs ws.now)) }
     ensures { result ≡ least (slice s e (clusters (glyphs ws.now))) }
 {
     let mut m: u32 = 4294967295;
-    let mut i = e;
-    while s < i {
-        i -= 1;
+    for i in (s..e).rev() {
         let c = records::glyphs::cluster_at(ws, i);
         if c < m {
             m = c;
@@ -23,97 +22,90 @@ pub fn least_cluster(ws: &[u32], s: usize, e: usize) -> u32
 }
 
 // The end of the run of glyphs of a cluster that starts at a place.
+#[tactic(auto, using(crate::proofs::Runs::running))]
 pub fn equal_end(ws: &[u32], e: usize, len: usize, cluster: u32) -> usize
     requires { (e ≤ len) × (len ≤ length (glyphs ws.now)) }
     ensures { result ≡ e + heads (is cluster) (slice e len (clusters (glyphs ws.now))) }
 {
-    let mut i = e;
-    while i < len {
+    for i in e..len {
         if records::glyphs::cluster_at(ws, i) != cluster {
             return i;
         }
-        i += 1;
     }
-    i
+    len
 }
 
 // The start of the run of glyphs of a cluster that ends at a place, not below the floor.
+#[tactic(auto, using(crate::proofs::Runs::running))]
 pub fn equal_start(ws: &[u32], s: usize, floor: usize, cluster: u32) -> usize
     requires { s ≤ length (glyphs ws.now) }
     ensures { result ≡ s - tails (is cluster) (slice floor s (clusters (glyphs ws.now))) }
 {
-    let mut i = s;
-    while floor < i {
-        if records::glyphs::cluster_at(ws, i - 1) != cluster {
-            return i;
+    for i in (floor..s).rev() {
+        if records::glyphs::cluster_at(ws, i) != cluster {
+            return i + 1;
         }
-        i -= 1;
     }
-    i
+    floor.min(s)
 }
 
 // The first place of a range whose glyph has a cluster, or its end.
+#[tactic(auto, using(crate::proofs::Runs::running))]
 pub fn other_end(ws: &[u32], s: usize, e: usize, cluster: u32) -> usize
     requires { (s ≤ e) × (e ≤ length (glyphs ws.now)) }
     ensures { result ≡ s + heads (isnt cluster) (slice s e (clusters (glyphs ws.now))) }
 {
-    let mut i = s;
-    while i < e {
+    for i in s..e {
         if records::glyphs::cluster_at(ws, i) == cluster {
             return i;
         }
-        i += 1;
     }
-    i
+    e
 }
 
 // The place behind the last glyph of a range that has a cluster, or its start.
+#[tactic(auto, using(crate::proofs::Runs::running))]
 pub fn other_start(ws: &[u32], s: usize, e: usize, cluster: u32) -> usize
     requires { e ≤ length (glyphs ws.now) }
     ensures { result ≡ e - tails (isnt cluster) (slice s e (clusters (glyphs ws.now))) }
 {
-    let mut i = e;
-    while s < i {
-        if records::glyphs::cluster_at(ws, i - 1) == cluster {
-            return i;
+    for i in (s..e).rev() {
+        if records::glyphs::cluster_at(ws, i) == cluster {
+            return i + 1;
         }
-        i -= 1;
     }
-    i
+    s.min(e)
 }
 
 // A range of glyphs gets a cluster.
+#[tactic(auto, using(crate::proofs::Editing::editing))]
 pub fn set_clusters(ws: &mut [u32], s: usize, e: usize, cluster: u32, mask: u32)
     requires { (s ≤ e) × (e ≤ length (glyphs ws.old)) }
     ensures { glyphs ws.new ≡ edit s e (set_cluster cluster mask) (glyphs ws.old) }
 {
-    let mut i = s;
-    while i < e {
+    for i in s..e {
         records::glyphs::set_cluster(ws, i, cluster, mask);
-        i += 1;
     }
 }
 
 // A range of glyphs gets bits of the mask.
+#[tactic(auto, using(crate::proofs::Editing::editing))]
 pub fn or_masks(ws: &mut [u32], s: usize, e: usize, bits: u32)
     requires { (s ≤ e) × (e ≤ length (glyphs ws.old)) }
     ensures { glyphs ws.new ≡ edit s e (flagged bits) (glyphs ws.old) }
 {
-    let mut i = s;
-    while i < e {
+    for i in s..e {
         records::glyphs::or_mask(ws, i, bits);
-        i += 1;
     }
 }
 
 // The glyphs of a range that are not of a cluster get bits of the mask.
+#[tactic(auto, using(crate::proofs::Editing::editing))]
 pub fn or_masks_unless(ws: &mut [u32], s: usize, e: usize, cluster: u32, bits: u32)
     requires { (s ≤ e) × (e ≤ length (glyphs ws.old)) }
     ensures { glyphs ws.new ≡ edit s e (flagged_unless cluster bits) (glyphs ws.old) }
 {
-    let mut i = s;
-    while i < e {
+    for i in s..e {
         records::glyphs::or_mask_unless(ws, i, cluster, bits);
-        i += 1;
     }
 }

@@ -1,54 +1,37 @@
 // The state by value: its tests, and the states that calls leave.
-ghost use Rattle.std.specs.Prelude.{◌≡◌, not, cond};
+ghost use Rattle.std.specs.Prelude.{◌≡◌, not, cond, Ok, Err, Some, None};
 ghost use Rattle.lists.specs.Account.{output_phase, positions_phase, spoiled_phase, read_level};
 ghost use Rattle.lists.specs.Contract.{Begins};
-ghost use Rattle.lists.specs.{Contract.in_order, inner.Held.Soundness, inner.Held.room_for};
+ghost use Rattle.lists.specs.{Contract.in_order, inner.Held.Soundness, inner.Held.Tested, inner.Held.room_for};
 ghost use Rattle.lists.specs.inner.States.{most_output, at_places, with_limits_of, fresh_buffer, apart_buffer, opened_buffer, positioned_buffer, swapped_buffer, spoiled_buffer, reply};
 
-use super::{Buffer, Reply, Room};
-use records::{Answer, DonePlace, InputPlace, Limits, Phase, Refusal};
+use super::{Buffer, Reply};
+use records::{DonePlace, InputPlace, Limits, Phase, Refusal};
 
 pub fn have_output(phase: Phase) -> bool
     ensures { result ≡ output_phase phase }
 {
-    match phase {
-        Phase::Plain => false,
-        Phase::Output => true,
-        Phase::Positions => false,
-        Phase::Spoiled => false,
-    }
+    phase == Phase::Output
 }
 
 pub fn have_positions(phase: Phase) -> bool
     ensures { result ≡ positions_phase phase }
 {
-    match phase {
-        Phase::Plain => false,
-        Phase::Output => false,
-        Phase::Positions => true,
-        Phase::Spoiled => false,
-    }
+    phase == Phase::Positions
 }
 
 pub fn is_spoiled(phase: Phase) -> bool
     ensures { result ≡ spoiled_phase phase }
 {
-    match phase {
-        Phase::Plain => false,
-        Phase::Output => false,
-        Phase::Positions => false,
-        Phase::Spoiled => true,
-    }
+    phase == Phase::Spoiled
 }
 
 // The one place where a level is read: one above 3 reads as 0.
+#[tactic(auto, unfolding(crate::specs::Account::read_level))]
 pub fn read_level(level: u32) -> u32
     ensures { result ≡ read_level level }
 {
-    if level <= 3 {
-        return level;
-    }
-    0
+    if level <= 3 { level } else { 0 }
 }
 
 // The most output that there can be: what is allocated where it lies apart, what the cursor left behind where it lies in the run.
@@ -66,6 +49,7 @@ fn most_output(b: Buffer) -> usize
 }
 
 // Whether the counters agree with each other and with the capacity.
+#[inline(always)]
 fn in_order(b: Buffer, capacity: usize) -> bool
     ensures { result ≡ in_order b capacity }
 {
@@ -82,6 +66,7 @@ fn in_order(b: Buffer, capacity: usize) -> bool
 }
 
 // What refusal 1 tests: counters and lengths only.
+#[inline(always)]
 pub fn is_sound(b: Buffer, first: &[u32], second: &[u32]) -> bool
     ensures { Soundness b first.now second.now result }
 {
@@ -91,69 +76,78 @@ pub fn is_sound(b: Buffer, first: &[u32], second: &[u32]) -> bool
     false
 }
 
-// "Needs size n".
-pub fn room_for(l: Limits, capacity: usize, n: usize) -> Room
+// Refusal 1, before all others.
+#[inline(always)]
+pub fn sound(b: Buffer, first: &[u32], second: &[u32]) -> Result<(), Refusal>
+    ensures { Tested b first.now second.now result }
+{
+    if is_sound(b, first, second) {
+        Ok(())
+    } else {
+        Err(Refusal::Contradiction)
+    }
+}
+
+// "Needs size n": whether it is there, or else given up.
+#[inline(always)]
+pub fn room_for(l: Limits, capacity: usize, n: usize) -> Result<bool, Refusal>
     ensures { result ≡ room_for capacity n l }
 {
     if n <= l.allocated {
-        return Room::Fits;
+        return Ok(true);
     }
     if l.max_len < n {
-        return Room::GivesUp;
+        return Ok(false);
     }
     if capacity < n {
-        return Room::Over;
+        return Err(Refusal::OverCapacity);
     }
-    Room::Fits
+    Ok(true)
 }
 
 pub fn refusal(b: Buffer, why: Refusal) -> Reply
-    ensures { result ≡ reply b (Answer.No why) }
+    ensures { result ≡ reply b (Err why) }
 {
     Reply {
         buffer: b,
-        answer: Answer::No(why),
+        answer: Err(why),
     }
 }
 
 pub fn accepted(b: Buffer) -> Reply
-    ensures { result ≡ reply b Answer.Done }
+    ensures { result ≡ reply b (Ok None) }
 {
     Reply {
         buffer: b,
-        answer: Answer::Done,
+        answer: Ok(None),
     }
 }
 
 pub(crate) fn answered(b: Buffer, value: u32) -> Reply
-    ensures { result ≡ reply b (Answer.Value value) }
+    ensures { result ≡ reply b (Ok (Some value)) }
 {
     Reply {
         buffer: b,
-        answer: Answer::Value(value),
+        answer: Ok(Some(value)),
     }
 }
 
 pub fn with_limits(b: Buffer, l: Limits) -> Buffer
     ensures { result ≡ with_limits_of l b }
 {
-    let mut r = b;
-    r.limits = l;
-    r
+    Buffer { limits: l, ..b }
 }
 
 // The three places of the cursor, of the input's end and of the output's end.
 pub fn at_places(b: Buffer, idx: usize, len: usize, out_len: usize) -> Buffer
     ensures { result ≡ at_places idx len out_len b }
 {
-    let i = InputPlace(idx);
-    let l = InputPlace(len);
-    let o = DonePlace(out_len);
-    let mut r = b;
-    r.idx = i;
-    r.len = l;
-    r.out_len = o;
-    r
+    Buffer {
+        idx: InputPlace(idx),
+        len: InputPlace(len),
+        out_len: DonePlace(out_len),
+        ..b
+    }
 }
 
 pub(crate) fn fresh_buffer(level: u32, wants: u32) -> Buffer
@@ -164,7 +158,7 @@ pub(crate) fn fresh_buffer(level: u32, wants: u32) -> Buffer
         len: InputPlace(0),
         out_len: DonePlace(0),
         phase: Phase::Plain,
-        limits: records::counters::fresh(),
+        limits: Limits::fresh(),
         level: level,
         wants: wants,
         swapped: false,
@@ -188,78 +182,55 @@ impl Buffer {
 pub(crate) fn opened(b: Buffer) -> Buffer
     ensures { result ≡ opened_buffer b }
 {
-    let len = b.len;
-    let limits = b.limits;
     Buffer {
         idx: InputPlace(0),
-        len: len,
         out_len: DonePlace(0),
         phase: Phase::Output,
-        limits: limits,
-        level: b.level,
-        wants: b.wants,
-        swapped: b.swapped,
         have_separate_output: false,
+        ..b
     }
 }
 
 pub(crate) fn positioned(b: Buffer) -> Buffer
     ensures { result ≡ positioned_buffer b }
 {
-    let idx = b.idx;
-    let len = b.len;
-    let limits = b.limits;
     Buffer {
-        idx: idx,
-        len: len,
         out_len: DonePlace(0),
         phase: Phase::Positions,
-        limits: limits,
-        level: b.level,
-        wants: b.wants,
-        swapped: b.swapped,
         have_separate_output: false,
+        ..b
     }
 }
 
 fn exchanged(swapped: bool, separate: bool) -> bool
     ensures { result ≡ cond separate (not swapped) swapped }
 {
-    if separate { !swapped } else { swapped }
+    swapped != separate
 }
 
 // The output as the run.
 pub(crate) fn swapped(b: Buffer) -> Buffer
     ensures { result ≡ swapped_buffer b }
 {
-    let limits = b.limits;
     Buffer {
         idx: InputPlace(0),
         len: InputPlace(b.out_len.0),
         out_len: DonePlace(0),
         phase: Phase::Plain,
-        limits: limits,
-        level: b.level,
-        wants: b.wants,
         swapped: exchanged(b.swapped, b.have_separate_output),
         have_separate_output: false,
+        ..b
     }
 }
 
 pub(crate) fn spoiled(b: Buffer) -> Buffer
     ensures { result ≡ spoiled_buffer b }
 {
-    let len = b.len;
-    let limits = b.limits;
     Buffer {
         idx: InputPlace(0),
-        len: len,
         out_len: DonePlace(0),
         phase: Phase::Spoiled,
-        limits: limits,
-        level: b.level,
-        wants: b.wants,
-        swapped: b.swapped,
         have_separate_output: false,
+        ..b
     }
 }

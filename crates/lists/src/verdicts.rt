@@ -1,122 +1,155 @@
 // What a call comes to, before a word is written, and the reply that is made of it.
-ghost use Rattle.std.specs.Prelude.{◌≡◌, false, ◌+◌, ◌<◌, ◌^◌};
+ghost use Rattle.std.specs.Prelude.{◌≡◌, false, None, Ok, ◌+◌, ◌<◌, ◌^◌};
 ghost use Rattle.lists.specs.inner.States.{at_places};
-ghost use Rattle.lists.specs.inner.Verdicts.{Leaves, failed_buffer, Sized, lies_elsewhere, settled, settled_as, synced};
+ghost use Rattle.lists.specs.inner.Verdicts.{Leaves, failed_buffer, Sized, lies_elsewhere, acts_of, apart_of, limited, settled_buffer, settled, settled_as, synced};
 
-use super::{Buffer, Reply, Room, Verdict, state};
-use records::{Answer, DonePlace, InputPlace, Refusal};
+use super::{Buffer, Decision, Reply, Verdict, state};
+use records::{DonePlace, InputPlace, Limits};
 
 // The verdict that leaves this state.
-pub fn verdict(b: Buffer, acts: bool, answer: Answer) -> Verdict
-    ensures { Leaves b acts answer result }
+#[inline(always)]
+pub fn leaves(b: Buffer, acts: bool, value: Option<u32>) -> Decision
+    ensures { Leaves b acts value result }
 {
-    let limits = records::counters::copied(b.limits);
-    Verdict {
+    Ok(Verdict {
         idx: b.idx.0,
         len: b.len.0,
         out_len: b.out_len.0,
-        limits: limits,
+        limits: b.limits,
         apart: false,
-        acts: acts,
-        answer: answer,
-    }
-}
-
-pub fn refused(b: Buffer, why: Refusal) -> Verdict
-    ensures { Leaves b false (Answer.No why) result }
-{
-    verdict(b, false, Answer::No(why))
+        acts,
+        value,
+    })
 }
 
 // The size is given up, and nothing else happens.
-pub fn fails(b: Buffer, answer: Answer) -> Verdict
-    ensures { Leaves (failed_buffer b) false answer result }
+#[inline(always)]
+pub fn fails(b: Buffer, value: Option<u32>) -> Decision
+    ensures { Leaves (failed_buffer b) false value result }
 {
-    verdict(
-        state::with_limits(b, records::counters::fail(b.limits)),
-        false,
-        answer,
-    )
+    leaves(state::with_limits(b, b.limits.fail()), false, value)
 }
 
 // The cursor goes on by n, and nothing is written.
-pub(crate) fn passes(b: Buffer, n: usize) -> Verdict
+#[inline(always)]
+pub(crate) fn passes(b: Buffer, n: usize) -> Decision
     requires { b.idx.0 + n < 2 ^ 64 }
-    ensures { Leaves (at_places (b.idx.0 + n) b.len.0 b.out_len.0 b) false Answer.Done result }
+    ensures { Leaves (at_places (b.idx.0 + n) b.len.0 b.out_len.0 b) false None result }
 {
     let after = state::at_places(b, b.idx.0 + n, b.len.0, b.out_len.0);
-    verdict(after, false, Answer::Done)
+    leaves(after, false, None)
 }
 
 // With output: num_in glyphs are taken and num_out written, if their size is there.
-pub fn writes(b: Buffer, capacity: usize, num_in: usize, num_out: usize, acts: bool) -> Verdict
+#[inline(always)]
+pub fn writes(b: Buffer, capacity: usize, num_in: usize, num_out: usize, acts: bool) -> Decision
     requires { (b.idx.0 + num_in < 2 ^ 64) × (b.out_len.0 + num_out < 2 ^ 64) }
     ensures { Sized capacity b num_in num_out acts result }
 {
     let out_len = b.out_len.0 + num_out;
-    let room = state::room_for(b.limits, capacity, out_len);
-    match room {
-        Room::Fits => {
-            let grown = state::with_limits(b, records::counters::grow(b.limits, out_len));
-            let after = state::at_places(grown, b.idx.0 + num_in, b.len.0, out_len);
-            verdict(after, acts, Answer::Done)
-        }
-        Room::GivesUp => fails(b, Answer::Done),
-        Room::Over => refused(b, Refusal::OverCapacity),
+    let fits = state::room_for(b.limits, capacity, out_len)?;
+    if fits {
+        let grown = state::with_limits(b, b.limits.grow(out_len));
+        let after = state::at_places(grown, b.idx.0 + num_in, b.len.0, out_len);
+        return leaves(after, acts, None);
     }
+    fails(b, None)
 }
 
 // Whether the glyphs at the cursor stand elsewhere than behind the output.
+#[tactic(auto, unfolding(crate::specs::inner::Verdicts::lies_elsewhere))]
 pub(crate) fn lies_elsewhere(b: Buffer) -> bool
     ensures { result ≡ lies_elsewhere b }
 {
-    if b.have_separate_output {
-        return true;
-    }
-    b.idx.0 != b.out_len.0
+    b.have_separate_output || b.idx.0 != b.out_len.0
 }
 
-// The reply, from the state before the call and its verdict.
-pub fn settled(b: Buffer, v: Verdict) -> Reply
-    ensures { result ≡ settled b v }
+// Whether glyphs are written for a call.
+pub fn acts(decision: Decision) -> bool
+    ensures { result ≡ acts_of decision }
 {
-    let phase = b.phase;
-    let limits = v.limits;
-    let answer = v.answer;
+    match decision {
+        Ok(v) => v.acts,
+        Err(_) => false,
+    }
+}
+
+// Whether the output moves to the other slice.
+pub fn moves_apart(decision: Decision) -> bool
+    ensures { result ≡ apart_of decision }
+{
+    match decision {
+        Ok(v) => v.apart,
+        Err(_) => false,
+    }
+}
+
+// The same verdict with other limits, which its act came to.
+pub fn limited(decision: Decision, limits: Limits) -> Decision
+    ensures { result ≡ limited limits decision }
+{
+    let v = decision?;
+    Ok(Verdict { limits, ..v })
+}
+
+// The state that a verdict leaves, from the one before the call.
+fn after(b: Buffer, v: Verdict) -> Buffer
+    ensures { result ≡ settled_buffer b v }
+{
+    Buffer {
+        idx: InputPlace(v.idx),
+        len: InputPlace(v.len),
+        out_len: DonePlace(v.out_len),
+        limits: v.limits,
+        have_separate_output: b.have_separate_output | v.apart,
+        ..b
+    }
+}
+
+// The reply of a verdict.
+#[tactic(auto, unfolding(crate::specs::inner::Verdicts::settled))]
+#[inline(always)]
+pub(crate) fn replied(b: Buffer, v: Verdict) -> Reply
+    ensures { result ≡ settled b (Ok v) }
+{
     Reply {
-        buffer: Buffer {
-            idx: InputPlace(v.idx),
-            len: InputPlace(v.len),
-            out_len: DonePlace(v.out_len),
-            phase: phase,
-            limits: limits,
-            level: b.level,
-            wants: b.wants,
-            swapped: b.swapped,
-            have_separate_output: b.have_separate_output | v.apart,
-        },
-        answer: answer,
+        buffer: after(b, v),
+        answer: Ok(v.value),
+    }
+}
+
+// The reply, from the state before the call and what it came to.
+#[inline(always)]
+pub fn settled(b: Buffer, decision: Decision) -> Reply
+    ensures { result ≡ settled b decision }
+{
+    match decision {
+        Ok(v) => replied(b, v),
+        Err(why) => state::refusal(b, why),
     }
 }
 
 // The reply of a call that leaves another state than its verdict's places: `after`, where it acts.
-pub(crate) fn settled_as(b: Buffer, after: Buffer, v: Verdict) -> Reply
-    ensures { result ≡ settled_as b after v }
+#[inline(always)]
+pub(crate) fn settled_as(b: Buffer, after: Buffer, decision: Decision) -> Reply
+    ensures { result ≡ settled_as b after decision }
 {
-    if v.acts {
+    if acts(decision) {
         return state::accepted(after);
     }
-    settled(b, v)
+    settled(b, decision)
 }
 
 // The reply of `sync`: the output as the run, or spoiled.
-pub(crate) fn synced(b: Buffer, v: Verdict) -> Reply
-    ensures { result ≡ synced b v }
+#[inline(always)]
+pub(crate) fn synced(b: Buffer, decision: Decision) -> Reply
+    ensures { result ≡ synced b decision }
 {
-    let answer = v.answer;
-    match answer {
-        Answer::Done => state::answered(state::swapped(settled(b, v).buffer), 1),
-        Answer::Value(x) => state::answered(state::spoiled(b), x),
-        Answer::No(why) => state::refusal(b, why),
+    match decision {
+        Ok(v) => match v.value {
+            None => state::answered(state::swapped(after(b, v)), 1),
+            Some(x) => state::answered(state::spoiled(b), x),
+        },
+        Err(why) => state::refusal(b, why),
     }
 }

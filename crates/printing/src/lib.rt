@@ -22,6 +22,7 @@ pub fn script_room() -> [u8; 262145]
 // Slices for 2,048 glyphs.
 const WORDS: usize = 2048 * records::words::WORDS;
 
+#[tactic(auto, unfolding(records::specs::Counters::words_for))]
 pub fn words() -> [u32; WORDS]
     ensures { words_for 2048 ≡ length result }
 {
@@ -49,8 +50,8 @@ pub fn print_too_long() {
 
 // The first n bytes to standard output; nothing where there are fewer.
 pub fn print(out: &[u8], n: usize) {
-    if n <= out.len() {
-        io::write_all(1, &out[..n]);
+    if let Some(text) = out.get(..n) {
+        io::write_all(1, text);
     }
 }
 
@@ -67,6 +68,7 @@ fn play(b: Buffer, first: &mut [u32], second: &mut [u32], script: &[u8], out: &m
         commands: 0,
     };
     let mut commands = 0;
+    // Where the next part begins is what the last one says, so no range goes over them.
     while last.next < script.len() {
         last = playing::play(last.reply.buffer, first, second, script, last.next, out);
         commands += last.commands;
@@ -84,4 +86,22 @@ pub fn play_fresh(first: &mut [u32], second: &mut [u32], script: &[u8], out: &mu
 {
     let reply = runs::begin(0, 0);
     play(reply.buffer, first, second, script, out)
+}
+
+// A whole program: what answers the commands of standard input prints them as it goes, and gives the length of the text that it
+// leaves at the start of the last room. At most 262,144 bytes are taken; of a longer input nothing is run, and a line says so.
+pub fn program<A: Fn(&mut [u32], &mut [u32], &[u8], &mut [u8]) -> usize>(answer_all: A)
+    requires { (first second : _) (script : _) (out : _) → words_for 2048 ≡ length first.now → words_for 2048 ≡ length second.now → 331938 ≡ length out.now → A.pre answer_all first second script out }
+{
+    let mut script = script_room();
+    let n = io::read_full(0, &mut script);
+    if is_too_long(n) {
+        print_too_long();
+        return;
+    }
+    let mut first = words();
+    let mut second = words();
+    let mut out = text_room();
+    let m = answer_all(&mut first, &mut second, &script[..n], &mut out);
+    print(&out, m);
 }

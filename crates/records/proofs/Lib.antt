@@ -8,6 +8,7 @@ pub mod Made
 pub mod Pairs
 pub mod Places
 pub mod Renaming
+pub mod StoredLaws
 pub mod Stores
 pub mod Tests
 pub mod View

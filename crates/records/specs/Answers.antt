@@ -1,7 +1,7 @@
 -- What a call answers, in document 01's own numbers. (Library says how definitions are written; src/lib.rt has the types with a capital in `declared`.)
 -- "Where an answer is an enum, a definition gives this paper's number and values for each of its cases, and the promises use that definition."
+use Rattle.std.specs.Prelude.{Result, Ok, Err, Option, None, Some}
 use Rattle.records.specs.Library.{ℕ}
-use Rattle.records.specs.{declared.Answer.Answer, declared.Answer.TheVariants.Done, declared.Answer.TheVariants.Value, declared.Answer.TheVariants.No}
 use Rattle.records.specs.{declared.Refusal.Refusal}
 use Rattle.records.specs.declared.Refusal.TheVariants.{Contradiction, WrongPhase, OutOfRange, BadOperand, OverCapacity, Unreadable}
 
@@ -19,6 +19,10 @@ pub data Said : Type 0 where
   ok : Said
   ok_with no : ℕ → Said
 
+-- what a function answers: `Ok` with a value or none, `Err` with why it is turned back
+abbrev pub Answer : Type 0
+Answer = Result (Option ℕ) Refusal
+
 -- what each case of an answer says
 abbrev pub said : Answer → Said
-said a = elim a [ Done ↦ ok | Value v ↦ ok_with v | No why ↦ no (refusal_number why) ]
+said a = elim a [ Ok v ↦ elim v [ None ↦ ok | Some x ↦ ok_with x ] | Err why ↦ no (refusal_number why) ]

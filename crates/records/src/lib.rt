@@ -8,10 +8,12 @@ pub mod bytes;
 pub mod counters;
 pub mod glyphs;
 pub mod positions;
+pub mod refusals;
+pub mod stored;
 pub mod words;
 
 // The phase of a buffer. In phase Output some of the input has become output.
-#[derive(Clone, Copy)]
+#[derive(Clone, Copy, PartialEq, Eq)]
 pub enum Phase {
     Plain,
     Output,
@@ -50,6 +52,13 @@ pub struct Position {
     pub free: u32,
 }
 
+// Which bits of a glyph are its key: those of the mask, of var0 where the slot is 0, else of var1.
+#[derive(Clone, Copy)]
+pub struct Key {
+    pub slot: u32,
+    pub mask: u32,
+}
+
 // The counters that no list shows. max_ops is signed, and held as its word.
 #[derive(Clone, Copy)]
 pub struct Limits {
@@ -62,21 +71,16 @@ pub struct Limits {
     pub successful: bool,
 }
 
-// Why a call is turned back. specs/Answers.antt has the number of each.
-#[derive(Clone, Copy)]
+// Why a call is turned back, by the numbers of specs/Answers.antt.
+#[derive(Clone, Copy, PartialEq, Eq)]
 pub enum Refusal {
-    Contradiction,
-    WrongPhase,
-    OutOfRange,
-    BadOperand,
-    OverCapacity,
-    Unreadable,
+    Contradiction = 1,
+    WrongPhase = 2,
+    OutOfRange = 3,
+    BadOperand = 4,
+    OverCapacity = 5,
+    Unreadable = 6,
 }
 
-// What a call answers. A truth is the value 1 or 0.
-#[derive(Clone, Copy)]
-pub enum Answer {
-    Done,
-    Value(u32),
-    No(Refusal),
-}
+// What a call answers: a value where it has one, or why it is turned back. A truth is the value 1 or 0.
+pub type Answer = Result<Option<u32>, Refusal>;

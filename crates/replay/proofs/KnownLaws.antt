@@ -1,10 +1,12 @@
 -- What harfrust has of a line: its first fields, found by their spaces.
-use mathlib.Core.{Path.◌≡◌, Path.refl, Path.sym, Path.ap, Path.◌∙◌, Bool.cond, List.List, List.[], List.◌∷◌, List.◌++◌}
+use mathlib.Core.{Path.◌≡◌, Path.refl, Path.sym, Path.ap, Path.◌∙◌, Bool.Bool, Bool.cond, Bool.true, Bool.false, List.List, List.[], List.◌∷◌, List.◌++◌}
 use Rattle.std.proofs.Common.{ℕ, zero, suc, ◌+◌, ◌-◌, ◌<◌, ◌≤◌, add-one, arith, le-ltb, lt-ltb, eq-eqb, ne_eqb}
-use lib.{Dec.ltb, ListN.length, ListN.get_or, ListN.take, ListN.drop, ListN.set, ListN.length-set, ListN.drop_of_length-le, Seq.drop-cons, Seq.take-suc-set, Seq.take-length, Seq.length-take-le}
+use Rattle.std.specs.List.{starts_with}
+use Rattle.std.proofs.lemmas.{Bool.Decides.Decides-eqb, Slice.Eq.starts_is}
+use lib.{Dec.eqb, Dec.ltb, ListN.length, ListN.get_or, ListN.take, ListN.drop, ListN.set, ListN.drop_of_length-le, Seq.drop-cons, Seq.take-suc-set}
 use Rattle.commands.specs.Texts.{Prints}
 use Rattle.replay.proofs.Bytes.{printed}
-use Rattle.replay.specs.Lines.{space_at, first_fields, known, theirs, Compared, Checked}
+use Rattle.replay.specs.Lines.{space_at, first_fields, known, theirs, Checked}
 use Rattle.replay.specs.declared.Tally.{Tally}
 
 -- ---- spaces
@@ -41,9 +43,11 @@ module _ {n : ℕ} {line : List ℕ} {left i : ℕ} (v : Seeking n line left i) 
     pub seek-other : (get_or line i 0 ≡ 32 → ⊥) → Seeking n line left (i + 1)
     seek-other s = let one : space_at left (drop i line) ≡ suc (space_at left (drop (i + 1) line)) = rw here (at_other (get_or line i 0) (drop (i + 1) line) left s) in record { to-go = omega (arith, v.to-go) }
 
-  pub seek-end : length line ≤ i → i ≡ space_at n line
+  pub seek-end : length line ≤ i → i ≤ length line → length line ≡ space_at n line
   unfolding space_at
-  seek-end h = let none : space_at left (drop i line) ≡ 0 = rw (drop_of_length-le line h) refl in omega (arith, v.to-go)
+  seek-end h within = let none : space_at left (drop i line) ≡ 0 = rw (drop_of_length-le line h) refl in omega (arith, v.to-go)
+
+pub ruleset seeking = (seek_found, seek-space, seek-other, seek-end)
 
 -- ---- fields
 some-fields : (line : List ℕ) (n : ℕ) → (n ≡ 0 → ⊥) → let at = space_at (n - 1) line in first_fields n line ≡ cond (ltb at (length line)) (take at line ++ (10 ∷ [])) line
@@ -52,9 +56,9 @@ some-fields line zero h = absurd (h refl)
 some-fields line (suc n) h = let back : suc n - 1 ≡ n = omega arith in rw back refl
 
 module _ (line : List ℕ) (n : ℕ) where
-  pub cut-none : n ≡ 0 → take 0 line ≡ first_fields n line
+  pub cut_none : n ≡ 0 → [] ≡ first_fields n line
   unfolding first_fields
-  cut-none e = rw e refl
+  cut_none e = rw e refl
 
   module _ {at : ℕ} (some : n ≡ 0 → ⊥) (e : at ≡ space_at (n - 1) line) where
     cut-is : first_fields n line ≡ cond (ltb at (length line)) (take at line ++ (10 ∷ [])) line
@@ -63,48 +67,37 @@ module _ (line : List ℕ) (n : ℕ) where
     pub cut_short : at < length line → take (at + 1) (set line at 10) ≡ first_fields n line
     cut_short h = rw (cut-is, lt-ltb _ _ h, add-one) (take-suc-set line at 10 h)
 
-    pub cut-within : at < length line → at + 1 ≤ length (set line at 10)
-    cut-within h = rw (length-set line at 10) (omega arith)
+    pub cut_whole : length line ≤ at → line ≡ first_fields n line
+    cut_whole h = rw (cut-is, le-ltb _ _ h) refl
 
-    pub cut-whole : length line ≤ at → take (length line) line ≡ first_fields n line
-    cut-whole h = rw (cut-is, le-ltb _ _ h) (take-length line)
+-- all that is known of it
+pub cut_theirs : (line : List ℕ) {n : ℕ} {r : List ℕ} → n ≡ known line → r ≡ first_fields n line → r ≡ theirs line
+unfolding theirs
+cut_theirs line e is = rw (← e) is
 
-pub known-empty : (line : List ℕ) → length line ≡ 0 → 6 ≡ known line
-unfolding known
-known-empty [] h = refl
-known-empty (c ∷ l) h = absurd (omega (arith, h))
+-- ---- the first byte of `sum`
+not-s : (line : List ℕ) → false ≡ starts_with eqb line (115 ∷ []) → get_or line 0 0 ≡ 115 → ⊥
+not-s [] h e = omega (arith, e)
+not-s (c ∷ l) h e = let yes : false ≡ true = (starts_is Decides-eqb (c ∷ l) (115 ∷ []) false h).1 l (ap (λ (x : ℕ). x ∷ l) e) in cc
 
 module _ (line : List ℕ) where
-  pub known-sum : get_or line 0 0 ≡ 115 → 0 ≡ known line
+  pub known_sum : {r : Bool} → r ≡ starts_with eqb line (115 ∷ []) → r ≡ true → 0 ≡ known line
   unfolding known
-  known-sum h = rw (eq-eqb _ _ h) refl
+  known_sum {r} h e =
+      let begins : line ≡ (115 ∷ []) ++ drop 1 line = (starts_is Decides-eqb line (115 ∷ []) r h).0 e in
+      let first : get_or line 0 0 ≡ 115 = ap (λ (l : List ℕ). get_or l 0 0) begins in
+      rw (eq-eqb _ _ first) refl
 
-  pub known-other : (get_or line 0 0 ≡ 115 → ⊥) → 6 ≡ known line
+  pub known_other : {r : Bool} → r ≡ starts_with eqb line (115 ∷ []) → r ≡ false → 6 ≡ known line
   unfolding known
-  known-other h = rw (ne_eqb _ _ h) refl
+  known_other h e = rw (ne_eqb _ _ (not-s line (sym e ∙ h))) refl
 
 -- ---- comparing
-checked-of : (line text : List ℕ) (t r : Tally) → 0 < length line → Compared line text t r → Checked line text t r
-checked-of [] text t r h c = absurd (omega (arith, h))
-checked-of (x ∷ line) text t r h c = c
-
-module _ (line cut text : List ℕ) (t : Tally) {n k : ℕ} (e : k ≡ known line) (is : take n cut ≡ first_fields k line) where
-  pub checked-none : n ≡ 0 → Checked (theirs line) text t t
-  unfolding theirs
-  checked-none z = let none : [] ≡ first_fields (known line) line = rw (z, e) at is in rw (← none) (refl, refl, refl)
-
-  pub checked-some : {r : Tally} → (n ≡ 0 → ⊥) → n ≤ length cut → Compared (take n cut) text t r → Checked (theirs line) text t r
-  unfolding theirs
-  checked-some {r} some fits c = rw (← e, ← is) (checked-of (take n cut) text t r (rw (length-take-le n cut fits) (omega (arith, some))) c)
-
-pub prefix-length : (n : ℕ) (l : List ℕ) → n ≤ length l → n ≡ length (take n l)
-prefix-length n l h = sym (length-take-le n l h)
-
 checked-after : (line text : List ℕ) (t u r : Tally) → u.lines ≡ t.lines → u.differences ≡ t.differences → u.at ≡ t.at → Checked line text u r → Checked line text t r
 checked-after [] text t u r l d a c = (c.0 ∙ l, c.1 ∙ d, c.2 ∙ a)
 checked-after (x ∷ line) text t u r l d a c = rw (← l, ← d, ← a) (record { counted = c.counted; same = c.same; other = c.other })
 
 -- a line that was printed and then checked; what else was counted in between changes nothing
-pub checked-printed : {line before after : List ℕ} {n : ℕ} (text : List ℕ) (t u r : Tally) → Prints line before 0 n after → 81 ≤ length before
+pub checked_printed : {line before after : List ℕ} {n : ℕ} (text : List ℕ) (t u r : Tally) → Prints line before 0 n after → 81 ≤ length before
     → u.lines ≡ t.lines → u.differences ≡ t.differences → u.at ≡ t.at → Checked (theirs (take n after)) text u r → Checked (theirs line) text t r
-checked-printed {line} text t u r p room l d a c = checked-after (theirs line) text t u r l d a (rw (printed p room) at c)
+checked_printed {line} text t u r p room l d a c = checked-after (theirs line) text t u r l d a (rw (printed p room) at c)

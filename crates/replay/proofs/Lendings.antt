@@ -13,8 +13,5 @@ module _ (n : ℕ) (ws : List ℕ) {k : ℕ} (e : k ≡ capacity_of (length ws))
   pub few_words : length ws < 2 ^ 64 → words_for n < 2 ^ 64
   few_words fits = omega (arith, words-in)
 
-  pub end-in : {end : ℕ} → end ≡ words_for n → end ≤ length ws
-  end-in p = rw p words-in
-
-  pub part-long : {end : ℕ} → end ≡ words_for n → end ≡ length (take end ws)
-  part-long {end} p = sym (length-take-le end ws (end-in p))
+  pub part_long : {end : ℕ} → end ≡ words_for n → end ≡ length (take end ws)
+  part_long {end} p = sym (length-take-le end ws (rw p words-in))

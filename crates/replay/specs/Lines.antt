@@ -1,9 +1,7 @@
 -- What harfrust has of a line, and that in a text.
 use mathlib.Core.{Path.◌≡◌, Bool.cond, List.List, List.[], List.◌∷◌, List.◌++◌}
-use Rattle.std.specs.Prelude.{ℕ, zero, suc, ◌+◌, ◌%◌, ◌^◌, ◌≤◌}
+use Rattle.std.specs.Prelude.{ℕ, zero, suc, ◌+◌, ◌%◌, ◌^◌, ◌≤◌, Option, Some, None}
 use lib.{Dec.eqb, Dec.ltb, ListN.length, ListN.get_or, ListN.take, ListN.drop}
-use Rattle.replay.specs.declared.Found.{Found}
-use Rattle.replay.specs.declared.Found.TheVariants.{Same, Different}
 use Rattle.replay.specs.declared.Tally.{Tally}
 
 -- ---- what document 02 added is left out
@@ -30,9 +28,10 @@ theirs line = first_fields (known line) line
 abbrev pub Stands : List ℕ → List ℕ → ℕ → Type 0
 Stands line text at = (at + length line ≤ length text) × (take (length line) (drop at text) ≡ line)
 
-abbrev pub Finds : List ℕ → List ℕ → ℕ → Found → Type 0
-Finds line text at (Same next) = Stands line text at × (next ≡ at + length line)
-Finds line text at Different = Stands line text at → ⊥
+-- the place after it, or none
+abbrev pub Finds : List ℕ → List ℕ → ℕ → Option ℕ → Type 0
+Finds line text at (Some next) = Stands line text at × (next ≡ at + length line)
+Finds line text at None = Stands line text at → ⊥
 
 -- one more, in 64 bits
 abbrev pub one_more : ℕ → ℕ

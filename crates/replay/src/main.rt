@@ -8,46 +8,52 @@
 ghost use Rattle.std.specs.Prelude.{◌≡◌};
 ghost use Rattle.replay.specs.Lines.{one_more};
 
+use reading::Input;
+
 mod comparing;
 mod known;
 mod playing;
 mod reading;
-mod rooms;
 mod telling;
 
-// What was counted, and what was read: its hash, and whether no more is to be read. `line` and `at` are where the
-// comparison stands in the text of a list.
-#[derive(Clone, Copy)]
+// 65,537 glyphs, one more than `enter` allows a short run.
+const WORDS: usize = 65537 * records::words::WORDS;
+
+// What was counted. `line` and `at` are where the comparison stands in the text of a list.
+#[derive(Clone, Copy, Default)]
 struct Tally {
     lists: u64,
     commands: u64,
     lines: u64,
     differences: u64,
-    hash: u32,
-    over: bool,
     line: u64,
     at: usize,
-}
-
-// Whether a line stands in a text, and where the next line starts.
-#[derive(Clone, Copy)]
-enum Found {
-    Same(usize),
-    Different,
 }
 
 // No run counts to the end of 64 bits.
 fn more(n: u64) -> u64
     ensures { result ≡ one_more n }
 {
-    std::num::wrapping_add_u64(n, 1)
+    n.wrapping_add(1)
 }
 
 fn main() {
-    let mut first = rooms::words();
-    let mut second = rooms::words();
-    let mut script = rooms::script();
-    let mut text = rooms::text();
-    let t = playing::all(&mut first, &mut second, &mut script, &mut text);
-    telling::counts(t);
+    let mut first = [0; WORDS];
+    let mut second = [0; WORDS];
+    let mut script = [0; 16384];
+    let mut text = [0; 262144];
+    let mut tally = Tally::default();
+    let mut input = Input::new();
+    let read = playing::all(
+        &mut tally,
+        &mut input,
+        &mut first,
+        &mut second,
+        &mut script,
+        &mut text,
+    );
+    if let Err(why) = read {
+        telling::unreadable(tally.lists, why);
+    }
+    telling::counts(&tally, input.hash);
 }

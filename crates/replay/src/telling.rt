@@ -1,30 +1,49 @@
 // What is printed.
 use super::Tally;
+use super::reading::Unreadable;
+use std::fmt;
+use std::fmt::Write;
 
-fn named(name: &[u8], n: u64) {
-    io::write_all(1, name);
-    io::print_decimal(1, n);
+// Standard output, by `io` as its input is. Nothing is done about what it does not take.
+#[derive(Drop)]
+struct Output;
+
+impl fmt::Write for Output {
+    fn write_str(&mut self, s: &str) -> fmt::Result {
+        io::write_all(1, s.as_bytes());
+        Ok(())
+    }
+}
+
+impl fmt::Display for Unreadable {
+    fn fmt<W: fmt::Write>(&self, f: &mut fmt::Formatter<W>) -> fmt::Result {
+        match self {
+            Unreadable::CutOff => write!(f, "is cut off"),
+            Unreadable::TooLong => write!(f, "is too long"),
+            Unreadable::TooLarge => write!(f, "has too large a capacity"),
+        }
+    }
+}
+
+impl fmt::Display for Tally {
+    fn fmt<W: fmt::Write>(&self, f: &mut fmt::Formatter<W>) -> fmt::Result {
+        writeln!(f, "lists {}", self.lists)?;
+        writeln!(f, "commands {}", self.commands)?;
+        writeln!(f, "lines {}", self.lines)?;
+        write!(f, "differences {}", self.differences)
+    }
 }
 
 // A line that is not the stored one, or is not stored.
-pub(crate) fn difference(t: Tally) {
-    named(b"list ", t.lists);
-    named(b" line ", t.line);
-    io::write_all(1, b" differs\n");
+pub(crate) fn difference(t: &Tally) {
+    let _ = writeln!(Output, "list {} line {} differs", t.lists, t.line);
 }
 
 // A list that cannot be read, and why.
-pub(crate) fn unreadable(t: Tally, why: &[u8]) {
-    named(b"list ", t.lists);
-    io::write_all(1, why);
-    io::write_all(1, b"\n");
+pub(crate) fn unreadable(list: u64, why: Unreadable) {
+    let _ = writeln!(Output, "list {list} {why}");
 }
 
-pub(crate) fn counts(t: Tally) {
-    named(b"lists ", t.lists);
-    named(b"\ncommands ", t.commands);
-    named(b"\nlines ", t.lines);
-    named(b"\ndifferences ", t.differences);
-    named(b"\nhash ", t.hash as u64);
-    io::write_all(1, b"\n");
+pub(crate) fn counts(t: &Tally, hash: u32) {
+    let _ = writeln!(Output, "{t}\nhash {hash}");
 }

@@ -5,45 +5,27 @@
 
 ghost use Rattle.std.specs.Prelude.{◌<◌, length};
 
-use commands::{Order, Reading};
-use lists::{Buffer, Reply};
-use records::{Answer, InputPlace, Refusal};
+use calls::Call;
+use commands::Order;
+use lists::Buffer;
+use records::{Answer, Refusal};
 
 // Slices for sixteen glyphs.
 const WORDS: usize = 16 * records::words::WORDS;
 
-mod lending;
+mod calls;
 mod reading;
 
-fn unreadable(b: Buffer) -> Reply {
-    Reply {
-        buffer: b,
-        answer: Answer::No(Refusal::Unreadable),
-    }
-}
-
-// 04, 08, 0B, 10 and 11 on a lent state, 01 and 03 by value. There are no others here.
-fn obey(b: Buffer, first: &mut [u32], second: &mut [u32], o: Order) -> Reply {
-    let byte = o.byte;
-    let x = o.a as usize;
-    let y = o.b as usize;
-    match byte {
-        0x01 => edits::filling::push(b, first, second, o.a, o.b),
-        0x03 => lists::cursor::clear_output(b, first, second),
-        0x04 => lending::sync(b, first, second),
-        0x08 => lending::next_glyphs(b, first, second, x),
-        0x0B => lending::output_glyph(b, first, second, o.a),
-        0x10 => lending::move_to(b, first, second, x),
-        0x11 => lending::merge_clusters(b, first, second, InputPlace(x), InputPlace(y)),
-        _ => unreadable(b),
-    }
-}
-
-fn carry_out(b: Buffer, first: &mut [u32], second: &mut [u32], found: Reading) -> Reply {
-    match found {
-        Reading::Command(o) => obey(b, first, second, o),
-        Reading::Unreadable => unreadable(b),
-    }
+// A command that the list lacks is answered as one that cannot be read.
+fn carry_out(
+    b: &mut Buffer,
+    first: &mut [u32],
+    second: &mut [u32],
+    found: Option<Order>,
+) -> Answer {
+    let order = found.ok_or(Refusal::Unreadable)?;
+    let call = Call::try_from(order)?;
+    calls::make(b, first, second, call)
 }
 
 // The byte that a command's line names.
@@ -52,13 +34,12 @@ fn byte_at(list: &[u8], at: usize) -> u8
 {
     let found = reading::peek(list, at);
     match found {
-        Reading::Command(o) => o.byte,
-        Reading::Unreadable => list[at],
+        Some(o) => o.byte,
+        None => list[at],
     }
 }
 
-fn print_answer(byte: u8, reply: Reply) {
-    let answer = reply.answer;
+fn print_answer(byte: u8, answer: Answer) {
     let mut out = [0u8; 128];
     let n = commands::lines::answer_line(&mut out, 0, byte, answer);
     printing::print(&out, n);
@@ -71,19 +52,17 @@ fn print_report(b: Buffer, first: &[u32], second: &[u32]) {
 }
 
 // The commands of a list, each with its answer printed.
-fn play(b: Buffer, first: &mut [u32], second: &mut [u32], list: &[u8]) -> Buffer {
-    let mut b = b;
+#[tactic(auto, using(crate::proofs::Onward::onward))]
+fn play(b: &mut Buffer, first: &mut [u32], second: &mut [u32], list: &[u8]) {
     let mut at = reading::start(list);
     while !reading::is_over(list, at) {
         let taken = reading::take(list, at);
         let byte = byte_at(list, at);
         let found = taken.reading;
-        let reply = carry_out(b, first, second, found);
-        print_answer(byte, reply);
-        b = reply.buffer;
+        let answer = carry_out(b, first, second, found);
+        print_answer(byte, answer);
         at = taken.next;
     }
-    b
 }
 
 // The list has one command to a line: A to D with clusters 0 to 3; 0B, before there is output; 03; 08, five and two; 0B; 11,
@@ -92,8 +71,9 @@ fn main() {
     let mut first = [0u32; WORDS];
     let mut second = [0u32; WORDS];
     let fresh = Buffer::new(0, 0);
-    let b = play(
-        fresh.buffer,
+    let mut b = fresh.buffer;
+    play(
+        &mut b,
         &mut first,
         &mut second,
         b"\x01A\0\0\0\0\0\0\0\
@@ -115,6 +95,6 @@ fn main() {
         \x04\
         \x04",
     );
-    let b = play(b, &mut first, &mut second, b"\x01E");
+    play(&mut b, &mut first, &mut second, b"\x01E");
     print_report(b, &first, &second);
 }

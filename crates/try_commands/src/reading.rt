@@ -1,9 +1,9 @@
-// The reader of commands on a slice and a place. Each function makes a reader there and asks it one thing.
+// The reader of commands on a slice and a place. Each function makes a reader there and asks it one thing: two of the calls take it.
 ghost use Rattle.std.specs.Prelude.{◌≡◌, leb, length};
 ghost use Rattle.commands.specs.Reading.{Reads};
 ghost use Rattle.commands.specs.Reading.{Takes};
 
-use commands::{Reading, Script, Taken, scripts};
+use commands::{Order, Script, Taken, scripts};
 
 // Where a new reader stands.
 pub(crate) fn start(bytes: &[u8]) -> usize
@@ -21,7 +21,7 @@ pub(crate) fn is_over(bytes: &[u8], at: usize) -> bool
 }
 
 // The command at the place.
-pub(crate) fn peek(bytes: &[u8], at: usize) -> Reading
+pub(crate) fn peek(bytes: &[u8], at: usize) -> Option<Order>
     ensures { Reads bytes.now at result }
 {
     scripts::next(Script { bytes, place: at })

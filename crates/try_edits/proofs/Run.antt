@@ -1,6 +1,7 @@
--- The account of the run that `expected` drives, before the first call and after each.
+-- The account of the run that `answers` drives, before the first call and after each.
 use mathlib.Core.{Path.◌≡◌, Path.refl, List.List, List.[], List.◌∷◌}
 use Prim.Native.Nat.{ℕ}
+use Rattle.std.specs.Prelude.{None, Ok, Err}
 use lib.ListN.{replicate}
 use Rattle.records.specs.{Glyphs.Glyph, Glyphs.blank, Counters.words_for, View.word_place, View.word, View.up_to, View.rows, View.made, View.glyph_of, View.glyphs}
 use Rattle.lists.specs.declared.Buffer.{Buffer}
@@ -8,7 +9,7 @@ use Rattle.lists.specs.{Account.Account, Account.Result, Account.outcome, Contra
 use Rattle.lists.proofs.{Chains.At}
 use Rattle.edits.specs.{Writing.output_glyph, Writing.replace_glyphs, Merging.merge_input, Merging.clusters_merge, Deleting.delete_glyph}
 use Rattle.edits.proofs.{Executable.executable}
-use Rattle.try_edits.specs.Codes.{code_of, started}
+use Rattle.driving.specs.{Answers.told, Starts.started}
 
 abbrev pub zeros : List ℕ
 zeros = replicate (words_for 3) 0
@@ -17,7 +18,7 @@ unfoldable pub nil : Glyph ℕ
 nil = record { glyph = 0; info = blank 0 }
 
 unfoldable pub a₀ : Account ℕ
-a₀ = record { done = []; passed = []; rest = nil ∷ nil ∷ []; state = state_of (started 2 0) }
+a₀ = record { done = []; passed = []; rest = nil ∷ nil ∷ []; state = state_of (started 2 2 0) }
 
 unfoldable pub a₁ : Account ℕ
 a₁ = (outcome a₀ (clear_output a₀)).after
@@ -47,30 +48,30 @@ a₄ = (outcome a₃ (full a₃)).after
 unfoldable pub a₅ : Account ℕ
 a₅ = (outcome a₄ (over a₄)).after
 
-pub at-start : {b : Buffer} → b ≡ started 2 0 → At 3 a₀ b zeros zeros
+pub at-start : {b : Buffer} → b ≡ started 2 2 0 → At 3 a₀ b zeros zeros
 unfolding executable nil a₀ started account account_of shown gone_of state_of sound in_order glyphs rows up_to made word word_place glyph_of
 at-start e = rw e (record { is = refl; fit = refl; room = refl })
 
 -- too few numbers: 4, before 5
-pub few-code : code_of (outcome a₁ (few a₁)).answer ≡ 6
-unfolding executable code_of nil a₀ a₁ started state_of gone_of
-few-code = refl
+pub few-told : told (outcome a₁ (few a₁)).answer ≡ Err 4
+unfolding executable told nil a₀ a₁ started state_of gone_of
+few-told = refl
 
 -- past the end: 3
-pub past-code : code_of (outcome a₂ (past a₂)).answer ≡ 5
-unfolding executable code_of nil a₀ a₁ a₂ started state_of gone_of
-past-code = refl
+pub past-told : told (outcome a₂ (past a₂)).answer ≡ Err 3
+unfolding executable told nil a₀ a₁ a₂ started state_of gone_of
+past-told = refl
 
-pub full-code : code_of (outcome a₃ (full a₃)).answer ≡ 2
-unfolding executable code_of nil a₀ a₁ a₂ a₃ started state_of gone_of
-full-code = refl
+pub full-told : told (outcome a₃ (full a₃)).answer ≡ Ok None
+unfolding executable told nil a₀ a₁ a₂ a₃ started state_of gone_of
+full-told = refl
 
 -- beyond the capacity: 5
-pub over-code : code_of (outcome a₄ (over a₄)).answer ≡ 7
-unfolding executable code_of nil a₀ a₁ a₂ a₃ a₄ started state_of gone_of
-over-code = refl
+pub over-told : told (outcome a₄ (over a₄)).answer ≡ Err 5
+unfolding executable told nil a₀ a₁ a₂ a₃ a₄ started state_of gone_of
+over-told = refl
 
 -- nothing left to delete: 3
-pub none-code : code_of (outcome a₅ (delete_glyph a₅)).answer ≡ 5
-unfolding executable code_of nil a₀ a₁ a₂ a₃ a₄ a₅ started state_of gone_of
-none-code = refl
+pub none-told : told (outcome a₅ (delete_glyph a₅)).answer ≡ Err 3
+unfolding executable told nil a₀ a₁ a₂ a₃ a₄ a₅ started state_of gone_of
+none-told = refl

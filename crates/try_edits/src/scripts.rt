@@ -1,98 +1,87 @@
-// Lists of calls as text. A call takes five bytes: its number in document 01, two operands of one digit, a space.
-// `.` prints the state.
-use super::{runs, show};
-use edits::deleting::delete_glyph;
-use edits::replacing::{replace_glyph, replace_glyphs};
-use edits::{merges, writing};
-use lists::{Buffer, Reply, cursor};
-use records::{DonePlace, InputPlace, Refusal};
+// Lists of calls as text, with a space between two. A word is a call: its number in document 01, two digits of sixteen, then up to
+// five operands of one digit, 0 where there are fewer. `-` is the largest operand, or an open bound. The word `.` prints the state.
+use super::{calls, show};
+use driving::answers::Printed;
+use driving::output::Stdout;
+use lists::Buffer;
+use records::GlyphInfo;
+use std::fmt;
+use std::fmt::Write;
 
-pub(crate) fn digit(c: u8) -> u32 {
-    if c < 48 {
-        return 0;
-    }
-    (c - 48) as u32
+// A call, and its operands.
+#[derive(Clone, Copy)]
+pub(crate) struct Call {
+    pub number: u32,
+    pub v: u32,
+    pub w: u32,
+    pub x: u32,
+    pub y: u32,
+    pub z: u32,
 }
 
-// 11 to 14, between two places.
-fn merge(b: Buffer, first: &mut [u32], second: &mut [u32], ones: u8, s: usize, e: usize) -> Reply {
-    match ones {
-        b'1' => merges::merge_clusters(b, first, second, InputPlace(s), InputPlace(e)),
-        b'2' => merges::merge_out_clusters(b, first, second, DonePlace(s), DonePlace(e)),
-        b'3' => merges::merge_grapheme_clusters(b, first, second, InputPlace(s), InputPlace(e)),
-        b'4' => merges::merge_out_grapheme_clusters(b, first, second, DonePlace(s), DonePlace(e)),
-        _ => lists::state::refusal(b, Refusal::Unreadable),
-    }
+fn number(tens: u8, ones: u8) -> Option<u32> {
+    let tens = (tens as char).to_digit(16)?;
+    let ones = (ones as char).to_digit(16)?;
+    tens.checked_mul(16)?.checked_add(ones)
 }
 
-// 0A to 0F; the numbers of 0E are always three.
-fn write(b: Buffer, first: &mut [u32], second: &mut [u32], ones: u8, x: u32, y: u32) -> Reply {
-    let numbers = [90u32, 91, 92];
-    match ones {
-        b'A' => writing::copy_glyph(b, first, second),
-        b'B' => writing::output_glyph(b, first, second, x),
-        b'C' => writing::output_info(b, first, second, runs::glyph(x, y)),
-        b'D' => replace_glyph(b, first, second, x),
-        b'E' => replace_glyphs(b, first, second, x as usize, y as usize, &numbers),
-        b'F' => delete_glyph(b, first, second),
-        _ => lists::state::refusal(b, Refusal::Unreadable),
+fn operand(c: Option<&u8>) -> u32 {
+    match c {
+        Some(b'-') => u32::MAX,
+        Some(c) => (*c as char).to_digit(10).unwrap_or(0),
+        None => 0,
     }
 }
 
-// The cursor's calls, and those above.
-fn call(
-    b: Buffer,
-    first: &mut [u32],
-    second: &mut [u32],
-    tens: u8,
-    ones: u8,
-    x: u32,
-    y: u32,
-) -> Reply {
-    if tens == b'1' {
-        return merge(b, first, second, ones, x as usize, y as usize);
-    }
-    match ones {
-        b'3' => cursor::clear_output(b, first, second),
-        b'4' => cursor::sync(b, first, second),
-        b'8' => cursor::next_glyphs(b, first, second, x as usize),
-        b'9' => cursor::skip_glyph(b, first, second),
-        _ => write(b, first, second, ones, x, y),
+// A word that is no call ends the run.
+impl TryFrom<&[u8]> for Call {
+    type Error = fmt::Error;
+
+    fn try_from(word: &[u8]) -> Result<Call, fmt::Error> {
+        let [tens, ones, operands @ ..] = word else {
+            return Err(fmt::Error);
+        };
+        Ok(Call {
+            number: number(*tens, *ones).ok_or(fmt::Error)?,
+            v: operand(operands.get(0)),
+            w: operand(operands.get(1)),
+            x: operand(operands.get(2)),
+            y: operand(operands.get(3)),
+            z: operand(operands.get(4)),
+        })
     }
 }
 
+// What a word asks for. A call is printed with its answer.
 fn step(
     b: Buffer,
     first: &mut [u32],
     second: &mut [u32],
-    tens: u8,
-    ones: u8,
-    x: u8,
-    y: u8,
-) -> Buffer {
-    if tens == b'.' {
-        show::state(b, first, second);
-        return b;
+    word: &str,
+) -> Result<Buffer, fmt::Error> {
+    if word == "." {
+        show::state(b, first, second)?;
+        return Ok(b);
     }
-    let name = [tens, ones];
-    show::shown(
-        &name,
-        call(b, first, second, tens, ones, digit(x), digit(y)),
-    )
+    let call = Call::try_from(word.as_bytes())?;
+    let reply = calls::call(b, first, second, call);
+    let answer = Printed(reply.answer);
+    writeln!(Stdout, "{:02X} {answer}", call.number)?;
+    Ok(reply.buffer)
 }
 
-pub(crate) fn run(b: Buffer, first: &mut [u32], second: &mut [u32], script: &[u8]) {
+pub(crate) fn run(b: Buffer, first: &mut [u32], second: &mut [u32], script: &str) -> fmt::Result {
     let mut b = b;
-    for i in 0..script.len() / 5 {
-        let at = 5 * i;
-        b = step(
-            b,
-            first,
-            second,
-            script[at],
-            script[at + 1],
-            script[at + 2],
-            script[at + 3],
-        );
+    for word in script.split(' ') {
+        b = step(b, first, second, word)?;
     }
+    Ok(())
+}
+
+// A script over a run that begins with these glyphs, in slices for seven.
+pub(crate) fn play(b: Buffer, glyphs: &[GlyphInfo], script: &str) -> fmt::Result {
+    let mut first = [0u32; super::SEVEN];
+    let mut second = [0u32; super::SEVEN];
+    driving::glyphs::fill(&mut first, glyphs);
+    run(b, &mut first, &mut second, script)
 }

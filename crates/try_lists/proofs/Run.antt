@@ -1,12 +1,13 @@
--- The account of the run that `expected` drives, before the first call and after each.
+-- The account of the run that `answers` drives, before the first call and after each.
 use mathlib.Core.{Path.◌≡◌, Path.refl, List.List, List.[], List.◌∷◌}
 use Prim.Native.Nat.{ℕ}
+use Rattle.std.specs.Prelude.{Some, None, Ok, Err}
 use lib.ListN.{replicate}
 use Rattle.records.specs.{Glyphs.Glyph, Glyphs.blank, Counters.words_for, View.word_place, View.word, View.up_to, View.rows, View.made, View.glyph_of, View.glyphs}
 use Rattle.lists.specs.declared.Buffer.{Buffer}
 use Rattle.lists.specs.{Account.Account, Account.outcome, Contract.shown, Contract.gone_of, Contract.state_of, Contract.account_of, Contract.account, Contract.in_order, Contract.sound, Cursor.clear_output, Cursor.next_glyphs, Cursor.move_to, Cursor.sync}
 use Rattle.lists.proofs.{Executable.executable, Chains.At}
-use Rattle.try_lists.specs.Codes.{code_of, started}
+use Rattle.driving.specs.{Answers.told, Starts.started}
 
 abbrev pub zeros : List ℕ
 zeros = replicate (words_for 6) 0
@@ -15,7 +16,7 @@ unfoldable pub nil : Glyph ℕ
 nil = record { glyph = 0; info = blank 0 }
 
 unfoldable pub a₀ : Account ℕ
-a₀ = record { done = []; passed = []; rest = nil ∷ nil ∷ nil ∷ []; state = state_of started }
+a₀ = record { done = []; passed = []; rest = nil ∷ nil ∷ nil ∷ []; state = state_of (started 3 6 0) }
 
 unfoldable pub a₁ : Account ℕ
 a₁ = (outcome a₀ (clear_output a₀)).after
@@ -32,26 +33,26 @@ a₄ = (outcome a₃ (move_to 6 1 a₃)).after
 unfoldable pub a₅ : Account ℕ
 a₅ = (outcome a₄ (sync 6 a₄)).after
 
-pub at-start : {b : Buffer} → b ≡ started → At 6 a₀ b zeros zeros
+pub at-start : {b : Buffer} → b ≡ started 3 6 0 → At 6 a₀ b zeros zeros
 unfolding executable nil a₀ started account account_of shown gone_of state_of sound in_order glyphs rows up_to made word word_place glyph_of
 at-start e = rw e (record { is = refl; fit = refl; room = refl })
 
-pub far-code : code_of (outcome a₁ (next_glyphs 6 4 a₁)).answer ≡ 5
-unfolding executable code_of nil a₀ a₁ started state_of gone_of
-far-code = refl
+pub far-told : told (outcome a₁ (next_glyphs 6 4 a₁)).answer ≡ Err 3
+unfolding executable told nil a₀ a₁ started state_of gone_of
+far-told = refl
 
-pub there-code : code_of (outcome a₂ (next_glyphs 6 2 a₂)).answer ≡ 2
-unfolding executable code_of nil a₀ a₁ a₂ started state_of gone_of
-there-code = refl
+pub there-told : told (outcome a₂ (next_glyphs 6 2 a₂)).answer ≡ Ok None
+unfolding executable told nil a₀ a₁ a₂ started state_of gone_of
+there-told = refl
 
-pub back-code : code_of (outcome a₃ (move_to 6 1 a₃)).answer ≡ 1
-unfolding executable code_of nil a₀ a₁ a₂ a₃ started state_of gone_of
-back-code = refl
+pub back-told : told (outcome a₃ (move_to 6 1 a₃)).answer ≡ Ok (Some 1)
+unfolding executable told nil a₀ a₁ a₂ a₃ started state_of gone_of
+back-told = refl
 
-pub synced-code : code_of (outcome a₄ (sync 6 a₄)).answer ≡ 1
-unfolding executable code_of nil a₀ a₁ a₂ a₃ a₄ started state_of gone_of
-synced-code = refl
+pub synced-told : told (outcome a₄ (sync 6 a₄)).answer ≡ Ok (Some 1)
+unfolding executable told nil a₀ a₁ a₂ a₃ a₄ started state_of gone_of
+synced-told = refl
 
-pub again-code : code_of (outcome a₅ (sync 6 a₅)).answer ≡ 4
-unfolding executable code_of nil a₀ a₁ a₂ a₃ a₄ a₅ started state_of gone_of
-again-code = refl
+pub again-told : told (outcome a₅ (sync 6 a₅)).answer ≡ Err 2
+unfolding executable told nil a₀ a₁ a₂ a₃ a₄ a₅ started state_of gone_of
+again-told = refl

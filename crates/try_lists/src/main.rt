@@ -2,171 +2,157 @@
 
 #![tactic(auto)]
 
-mod codes;
+ghost use Rattle.std.specs.Prelude.{◌≡◌, ◌∷◌, []};
+ghost use Rattle.driving.specs.Starts.{started};
 
-use lists::{Buffer, Reply};
-use records::{Answer, DonePlace, GlyphInfo};
+use driving::answers::{self, Printed};
+use driving::output::Stdout;
+use driving::{glyphs, starts};
+use lists::{Buffer, Reply, cursor};
+use records::{DonePlace, GlyphInfo};
+use std::fmt;
+use std::fmt::Write;
 
 // Slices for six glyphs, and one for five.
 const WORDS: usize = 6 * records::words::WORDS;
 
 const SHORT: usize = 5 * records::words::WORDS;
 
-fn field(n: u64) {
-    io::write_all(1, b" ");
-    io::print_decimal(1, n);
+// A plain run of three glyphs, with room for six.
+fn start() -> Buffer
+    ensures { result ≡ started 3 6 0 }
+{
+    starts::start(3, 6, 0)
 }
 
 // The answer, then len, idx, out_len, max_ops.
-fn shown(r: Reply) -> Buffer {
-    let answer = r.answer;
-    match answer {
-        Answer::Done => {
-            io::write_all(1, b"ok");
-        }
-        Answer::Value(v) => {
-            io::write_all(1, b"ok");
-            field(v as u64);
-        }
-        Answer::No(why) => {
-            io::write_all(1, b"no");
-            field(records::counters::refusal_number(why) as u64);
-        }
-    }
+fn shown(r: Reply) -> Result<Buffer, fmt::Error> {
     let b = r.buffer;
-    io::write_all(1, b" |");
-    field(b.len.0 as u64);
-    field(b.idx.0 as u64);
-    field(b.out_len.0 as u64);
-    field(b.limits.max_ops as u64);
-    io::write_all(1, b"\n");
-    b
-}
-
-fn print_glyph(g: GlyphInfo) {
-    field(g.glyph as u64);
-    field(g.mask as u64);
-    field(g.cluster as u64);
-    field(g.var0 as u64);
-    field(g.var1 as u64);
-    field(g.origin as u64);
+    let ops = b.limits.max_ops;
+    let answer = Printed(r.answer);
+    writeln!(
+        Stdout,
+        "{answer} | {} {} {} {ops}",
+        b.len.0, b.idx.0, b.out_len.0
+    )?;
+    Ok(b)
 }
 
 // The glyphs of a slice, all of their words.
-fn print_glyphs(ws: &[u32]) {
+#[tactic(auto, using(driving::proofs::Slices::in_slice))]
+fn print_glyphs(ws: &[u32]) -> fmt::Result {
     for i in 0..records::glyphs::capacity(ws) {
-        print_glyph(records::glyphs::get(ws, i));
+        let g = records::glyphs::get(ws, i);
+        write!(Stdout, " {} {} {}", g.glyph, g.mask, g.cluster)?;
+        write!(Stdout, " {} {} {}", g.var0, g.var1, g.origin)?;
     }
-    io::write_all(1, b"\n");
+    writeln!(Stdout)
 }
 
-fn glyph(number: u32, cluster: u32) -> GlyphInfo {
+fn glyph(number: u32) -> GlyphInfo {
     GlyphInfo {
-        glyph: number,
-        mask: 0,
-        cluster: cluster,
-        var0: 0,
-        var1: 0,
         origin: number % 8,
+        ..records::glyphs::blank(number, number % 32)
     }
 }
 
 // The cursor with output in the run, and back.
-fn within(b: Buffer, first: &mut [u32], second: &mut [u32]) -> Buffer {
-    let b = shown(lists::cursor::clear_output(b, first, second));
-    let b = shown(lists::cursor::next_glyph(b, first, second));
-    let b = shown(lists::cursor::skip_glyph(b, first, second));
-    print_glyphs(lists::cursor::out_info(b, first, second));
-    let b = shown(lists::cursor::next_glyphs(b, first, second, 2));
-    let b = shown(lists::cursor::move_to(b, first, second, 2));
-    print_glyphs(lists::cursor::out_info(b, first, second));
-    let b = shown(lists::cursor::move_to(b, first, second, 0));
-    let b = shown(lists::cursor::move_to(b, first, second, 9));
-    shown(lists::cursor::sync(b, first, second))
+fn within(b: Buffer, first: &mut [u32], second: &mut [u32]) -> Result<Buffer, fmt::Error> {
+    let b = shown(cursor::clear_output(b, first, second))?;
+    let b = shown(cursor::next_glyph(b, first, second))?;
+    let b = shown(cursor::skip_glyph(b, first, second))?;
+    print_glyphs(cursor::out_info(b, first, second))?;
+    let b = shown(cursor::next_glyphs(b, first, second, 2))?;
+    let b = shown(cursor::move_to(b, first, second, 2))?;
+    print_glyphs(cursor::out_info(b, first, second))?;
+    let b = shown(cursor::move_to(b, first, second, 0))?;
+    let b = shown(cursor::move_to(b, first, second, 9))?;
+    shown(cursor::sync(b, first, second))
 }
 
 // Output that lies apart: three glyphs are written there, none of the input is gone.
 fn apart(b: Buffer) -> Buffer {
-    let mut r = b;
-    let o = DonePlace(3);
-    r.out_len = o;
-    r.have_separate_output = true;
-    r
-}
-
-fn across(b: Buffer, first: &mut [u32], second: &mut [u32]) -> Buffer {
-    let b = apart(shown(lists::cursor::clear_output(b, first, second)));
-    print_glyphs(lists::cursor::out_info(b, first, second));
-    let b = shown(lists::cursor::move_to(b, first, second, 1));
-    print_glyphs(lists::cursor::out_info(b, first, second));
-    let b = shown(lists::cursor::move_to(b, first, second, 2));
-    let b = shown(lists::cursor::sync(b, first, second));
-    shown(lists::cursor::sync(b, first, second))
-}
-
-// Counters, and the phases without output.
-fn plain(b: Buffer, first: &mut [u32], second: &mut [u32]) -> Buffer {
-    let b = shown(lists::cursor::enter(b, first, second));
-    let b = shown(lists::cursor::allocate_lig_id(b, first, second));
-    let b = shown(lists::cursor::leave(b, first, second));
-    let b = shown(lists::cursor::next_glyph(b, first, second));
-    let b = shown(lists::cursor::clear_positions(b, first, second));
-    let b = shown(lists::cursor::skip_glyph(b, first, second));
-    let b = shown(lists::cursor::move_to(b, first, second, 0));
-    let b = shown(lists::cursor::fresh(b, first, second, 5, 8));
-    shown(lists::cursor::fresh(b, first, second, 5, 7))
-}
-
-// The cursor over the run: there, too far, back, and `sync` once more than there is output.
-// Each answer is proved before the program runs: an `expect` is a fact of the contracts.
-fn expected() {
-    let mut first = [0u32; WORDS];
-    let mut second = [0u32; WORDS];
-    let opened = lists::cursor::clear_output(codes::start(), &first, &second);
-    let far = lists::cursor::next_glyphs(opened.buffer, &mut first, &mut second, 4);
-    let far_answer = far.answer;
-    check::expect(codes::code(far_answer) == 5);
-    let there = lists::cursor::next_glyphs(far.buffer, &mut first, &mut second, 2);
-    let there_answer = there.answer;
-    check::expect(codes::code(there_answer) == 2);
-    let back = lists::cursor::move_to(there.buffer, &mut first, &mut second, 1);
-    let back_answer = back.answer;
-    check::expect(codes::code(back_answer) == 1);
-    let synced = lists::cursor::sync(back.buffer, &mut first, &mut second);
-    let synced_answer = synced.answer;
-    check::expect(codes::code(synced_answer) == 1);
-    let again = lists::cursor::sync(synced.buffer, &mut first, &mut second);
-    let again_answer = again.answer;
-    check::expect(codes::code(again_answer) == 4);
-}
-
-// Puts a glyph at a place, if the slice has it.
-fn put_at(ws: &mut [u32], at: usize, number: u32) {
-    if at < records::glyphs::capacity(ws) {
-        records::glyphs::put(ws, at, glyph(number, number % 32));
+    Buffer {
+        out_len: DonePlace(3),
+        have_separate_output: true,
+        ..b
     }
 }
 
-fn fill(ws: &mut [u32], a: u32, b: u32, c: u32) {
-    put_at(ws, 0, a);
-    put_at(ws, 1, b);
-    put_at(ws, 2, c);
+fn across(b: Buffer, first: &mut [u32], second: &mut [u32]) -> Result<Buffer, fmt::Error> {
+    let b = apart(shown(cursor::clear_output(b, first, second))?);
+    print_glyphs(cursor::out_info(b, first, second))?;
+    let b = shown(cursor::move_to(b, first, second, 1))?;
+    print_glyphs(cursor::out_info(b, first, second))?;
+    let b = shown(cursor::move_to(b, first, second, 2))?;
+    let b = shown(cursor::sync(b, first, second))?;
+    shown(cursor::sync(b, first, second))
 }
 
+// Counters, and the phases without output.
+fn plain(b: Buffer, first: &mut [u32], second: &mut [u32]) -> Result<Buffer, fmt::Error> {
+    let b = shown(cursor::enter(b, first, second))?;
+    let b = shown(cursor::allocate_lig_id(b, first, second))?;
+    let b = shown(cursor::leave(b, first, second))?;
+    let b = shown(cursor::next_glyph(b, first, second))?;
+    let b = shown(cursor::clear_positions(b, first, second))?;
+    let b = shown(cursor::skip_glyph(b, first, second))?;
+    let b = shown(cursor::move_to(b, first, second, 0))?;
+    let b = shown(cursor::fresh(b, first, second, 5, 8))?;
+    shown(cursor::fresh(b, first, second, 5, 7))
+}
+
+// The cursor over the run: too far, there, back, and `sync` once more than there is output.
+fn answers() -> [Result<Option<u32>, u32>; 5]
+    ensures { result ≡ Err 3 ∷ Ok None ∷ Ok (Some 1) ∷ Ok (Some 1) ∷ Err 2 ∷ [] }
+{
+    let mut first = [0u32; WORDS];
+    let mut second = [0u32; WORDS];
+    let opened = cursor::clear_output(start(), &first, &second);
+    let far = cursor::next_glyphs(opened.buffer, &mut first, &mut second, 4);
+    let there = cursor::next_glyphs(far.buffer, &mut first, &mut second, 2);
+    let back = cursor::move_to(there.buffer, &mut first, &mut second, 1);
+    let synced = cursor::sync(back.buffer, &mut first, &mut second);
+    let again = cursor::sync(synced.buffer, &mut first, &mut second);
+    [
+        answers::told(far.answer),
+        answers::told(there.answer),
+        answers::told(back.answer),
+        answers::told(synced.answer),
+        answers::told(again.answer),
+    ]
+}
+
+// Each answer is proved before the program runs: an `expect` is a fact of the contracts.
+fn expected() {
+    let [far, there, back, synced, again] = answers();
+    check::expect(far == Err(3));
+    check::expect(there == Ok(None));
+    check::expect(back == Ok(Some(1)));
+    check::expect(synced == Ok(Some(1)));
+    check::expect(again == Err(2));
+}
+
+fn drive(first: &mut [u32], second: &mut [u32], short: &[u32]) -> fmt::Result {
+    glyphs::fill(first, &[64, 65, 66].map(glyph));
+    within(start(), first, second)?;
+    glyphs::fill(first, &[64, 65, 66].map(glyph));
+    glyphs::fill(second, &[96, 97, 98].map(glyph));
+    across(start(), first, second)?;
+    print_glyphs(first)?;
+    print_glyphs(second)?;
+    plain(start(), first, second)?;
+    print_glyphs(first)?;
+    print_glyphs(second)?;
+    shown(cursor::enter(start(), first, short))?;
+    Ok(())
+}
+
+// A line that cannot be written ends the run.
 fn main() {
     expected();
     let mut first = [0u32; WORDS];
     let mut second = [7u32; WORDS];
     let short = [0u32; SHORT];
-    fill(&mut first, 64, 65, 66);
-    let b = within(codes::start(), &mut first, &mut second);
-    fill(&mut first, 64, 65, 66);
-    fill(&mut second, 96, 97, 98);
-    let b = across(codes::start(), &mut first, &mut second);
-    print_glyphs(&first);
-    print_glyphs(&second);
-    let b = plain(codes::start(), &mut first, &mut second);
-    print_glyphs(&first);
-    print_glyphs(&second);
-    let b = shown(lists::cursor::enter(codes::start(), &first, &short));
+    let _ = drive(&mut first, &mut second, &short);
 }

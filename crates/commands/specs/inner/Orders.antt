@@ -1,11 +1,11 @@
 -- What functions below the reader make: orders of operands that stand in a string.
 use mathlib.Core.{Path.◌≡◌, List.List}
-use Rattle.std.specs.Prelude.{ℕ, ◌+◌, ◌*◌}
+use Rattle.std.specs.Prelude.{ℕ, ◌+◌, ◌*◌, Option}
 use lib.{ListN.get_or, ListN.drop}
 use Rattle.records.specs.Bytes.{words_at}
 use Rattle.commands.specs.Calls.{read_form}
 use Rattle.commands.specs.{Calls.form_of, Reading.reading_of, Reading.IsOrdered}
-use Rattle.commands.specs.{declared.Order.Order, declared.Reading.Reading}
+use Rattle.commands.specs.declared.Order.{Order}
 
 -- operand i of n, which stand from a place on; 0 where there are fewer
 abbrev pub operand_at : List ℕ → (from n i : ℕ) → ℕ
@@ -25,6 +25,6 @@ order_at s byte from n m = record {
 }
 
 -- what is read of the operands of a command byte, which stand from a place on
-pub record ReadsForm (s : List ℕ) (byte from : ℕ) (r : Reading) : Type 0 where
+pub record ReadsForm (s : List ℕ) (byte from : ℕ) (r : Option Order) : Type 0 where
   pub same : read_form (form_of byte) (drop from s) ≡ reading_of s r
   pub ordered : IsOrdered s byte from r

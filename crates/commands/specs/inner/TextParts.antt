@@ -1,17 +1,12 @@
 -- What the functions below whole texts say of a line and its place.
-use mathlib.Core.{Path.◌≡◌, Bool.Bool, Bool.true, Bool.false, Bool.◌&&◌, List.List, List.flat_map}
+use mathlib.Core.{Path.◌≡◌, Bool.Bool, Bool.◌&&◌, List.List}
 use Rattle.std.specs.Prelude.{ℕ, ◌+◌, ◌-◌, ◌*◌, ◌≤◌}
 use lib.{Dec.ltb, Dec.leb, ListN.length, ListN.take, ListN.drop}
-use Rattle.commands.specs.Texts.{from_space, without_glyph, longest}
+use Rattle.commands.specs.{Lines.reported, Texts.from_space, Texts.longest, declared.texts.Source.Source}
 
--- a line of a report: with the glyph column, or `bare` of it
-unfoldable pub shown : (bare : Bool) → List ℕ → List ℕ
-shown true l = without_glyph l
-shown false l = l
-
--- such lines one after the other
-abbrev pub joined : (bare : Bool) → List (List ℕ) → List ℕ
-joined bare ls = flat_map (shown bare) ls
+-- the lines of which a text is made
+abbrev pub report_of : Source → List (List ℕ)
+report_of s = reported s.b s.first.now s.second.now
 
 -- r is the place of the next space in a line from a place on, or its end
 pub record Spaced (line : List ℕ) (from r : ℕ) : Type 0 where
@@ -19,9 +14,9 @@ pub record Spaced (line : List ℕ) (from r : ℕ) : Type 0 where
   pub low : from ≤ r
   pub high : r ≤ length line
 
--- from r on stands what was a line, without its glyph column
-pub record Cut (before : List ℕ) (r : ℕ) (after : List ℕ) : Type 0 where
-  pub is : drop r after ≡ without_glyph before
+-- from r on stands what is shown of what was a line
+pub record Cut (shown : List ℕ → List ℕ) (before : List ℕ) (r : ℕ) (after : List ℕ) : Type 0 where
+  pub is : drop r after ≡ shown before
   pub inside : r ≤ length before
 
 -- a line stands in a room between two places

@@ -2,9 +2,13 @@
 use mathlib.Core.{Path.◌≡◌, Bool.true, Bool.false, List.List, List.◌++◌}
 use Rattle.std.specs.Prelude.{ℕ, ◌≤◌}
 use Rattle.records.specs.{Bytes.words_of, Glyphs.Info, Ranges.copies, View.words_from}
-use Rattle.lists.specs.declared.Buffer.{Buffer}
+use Rattle.lists.specs.{declared.Buffer.Buffer, declared.Lists.Lists}
 use Rattle.lists.specs.{Account.Account, Account.output_phase, Account.spoiled_phase, Cursor.dropping, Contract.account_of, inner.Held.Held, Contract.gone_of}
 use Rattle.edits.specs.Writing.{written}
+
+-- where the lists of a buffer lie
+abbrev pub lists_of : Buffer → Lists
+lists_of b = record { idx = b.idx.0; len = b.len.0; out_len = b.out_len.0; separate = b.have_separate_output }
 
 -- h on the account, nothing beyond the allocated size. Limits may change, the size does not
 pub record Acts (h : Account ℕ → Account ℕ) (b : Buffer) (run other : List ℕ) (r : Buffer) (run' other' : List ℕ) : Type 0 where

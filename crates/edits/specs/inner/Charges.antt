@@ -1,21 +1,20 @@
 -- Calls on the whole run whose act says what is left of the limits: what is promised of their verdicts and of their acts.
+use Rattle.lists.specs.inner.States.{Decision}
+use Rattle.lists.specs.inner.Verdicts.{acts_of, amended}
+use Rattle.std.specs.Prelude.{Err, None}
 use mathlib.Core.{Path.◌≡◌, Bool.Bool, Bool.true, Bool.false, Bool.cond, Bool.◌||◌, List.List}
 use Rattle.std.specs.Prelude.{ℕ, ◌-◌}
 use lib.{Dec.ltb, ListN.length}
-use Rattle.records.specs.{Contradiction, WrongPhase, BadOperand, Done, No, Limits, Ranges.infos}
+use Rattle.records.specs.{Contradiction, WrongPhase, BadOperand, Limits, Ranges.infos}
 use Rattle.lists.specs.{declared.Buffer.Buffer, declared.Verdict.Verdict}
 use Rattle.lists.specs.{Account.Account, Account.output_phase, Account.spoiled_phase, Account.Result, Contract.sound, Contract.Meets, inner.Verdicts.leaving, inner.Verdicts.settled, inner.Verdicts.Sided}
 use Rattle.edits.specs.{inner.Acts.Acts, Groups.group_sizes, Groups.continues, Groups.merged_each, Merging.merge, inner.MergeActs.merge_limits, inner.Wholes.WholeInput}
 
--- a verdict with other limits
-abbrev pub left_with : Limits → Verdict → Verdict
-left_with l v = record { idx = v.idx; len = v.len; out_len = v.out_len; limits = l; apart = v.apart; acts = v.acts; answer = v.answer }
-
 -- what is promised of a verdict that what the act returns, x, amends
-pub record DecidedBy (R : Type 0) (amend : R → Verdict → Verdict) (call : ℕ → Account ℕ → Result ℕ) (b : Buffer) (f s : List ℕ) (v : Verdict) (Ask : Type 0) (Act : R → (run other run' other' : List ℕ) → Type 0) : Type 0 where
-  pub still : v.acts ≡ false → Meets call b f s (settled b v) f s
-  pub asked : v.acts ≡ true → Ask
-  pub acted : v.acts ≡ true → (x : R) {f' s' : List ℕ} → length f' ≡ length f → length s' ≡ length s → Sided b.swapped (Act x) f s f' s' → Meets call b f s (settled b (amend x v)) f' s'
+pub record DecidedBy (R : Type 0) (amend : R → Verdict → Verdict) (call : ℕ → Account ℕ → Result ℕ) (b : Buffer) (f s : List ℕ) (d : Decision) (Ask : Type 0) (Act : R → (run other run' other' : List ℕ) → Type 0) : Type 0 where
+  pub still : acts_of d ≡ false → Meets call b f s (settled b d) f s
+  pub asked : acts_of d ≡ true → Ask
+  pub acted : acts_of d ≡ true → (x : R) {f' s' : List ℕ} → length f' ≡ length f → length s' ≡ length s → Sided b.swapped (Act x) f s f' s' → Meets call b f s (settled b (amended (amend x) d)) f' s'
 
 -- a buffer with this level and wants whose whole run has n glyphs, its limits l
 abbrev pub running : (level wants n : ℕ) → Limits → Buffer → Buffer
@@ -33,12 +32,12 @@ pub record MergesEach (merging : Bool) (level wants n slot mask : ℕ) (l l' : L
   pub is : Charges WholeInput (λ a. merged_each merging (group_sizes (continues slot mask) (infos a.rest)) 0 a) level wants n l l' run other run' other'
 
 -- 1E, 21, 22: whether the call goes ahead
-unfoldable pub keyed_verdict : ℕ → Buffer → (first second : List ℕ) → Verdict
+unfoldable pub keyed_verdict : ℕ → Buffer → (first second : List ℕ) → Decision
 keyed_verdict slot b f s =
     cond (sound b f s)
-    (cond (output_phase b.phase || (spoiled_phase b.phase || ltb 0 b.idx.0)) (leaving b false (No WrongPhase))
-    (cond (ltb 1 slot) (leaving b false (No BadOperand)) (leaving b true Done)))
-    (leaving b false (No Contradiction))
+    (cond (output_phase b.phase || (spoiled_phase b.phase || ltb 0 b.idx.0)) (Err WrongPhase)
+    (cond (ltb 1 slot) (Err BadOperand) (leaving b true None)))
+    (Err Contradiction)
 
-pub record TakesKeyed (slot : ℕ) (b : Buffer) (f s : List ℕ) (v : Verdict) : Type 0 where
-  pub is : v ≡ keyed_verdict slot b f s
+pub record TakesKeyed (slot : ℕ) (b : Buffer) (f s : List ℕ) (d : Decision) : Type 0 where
+  pub is : d ≡ keyed_verdict slot b f s

@@ -1,4 +1,5 @@
 -- What the functions below the exported deletion ask for and do, by places.
+use Rattle.lists.specs.inner.Verdicts.{limiting_verdict}
 use mathlib.Core.{Path.◌≡◌, Bool.Bool, Bool.true, Bool.false, Bool.cond, Bool.◌&&◌, List.List}
 use Rattle.std.specs.Prelude.{ℕ, ◌+◌, ◌<◌, ◌≤◌}
 use lib.{Dec.ltb, ListN.length, ListN.get_or, ListN.set}
@@ -6,7 +7,7 @@ use Rattle.records.specs.{Limits, Glyphs.zero_position, Ranges.clusters, Ranges.
 use Rattle.lists.specs.{declared.Buffer.Buffer, declared.Verdict.Verdict}
 use Rattle.lists.specs.{Account.Account, Account.output_phase, Account.positions_phase, Contract.account_of, inner.Held.Held, inner.States.at_places, inner.States.with_limits_of}
 use Rattle.edits.specs.declared.Kept.{Kept}
-use Rattle.edits.specs.{inner.Acts.Acts, inner.Charges.left_with, inner.Charges.running, Deleting.current, Deleting.survives, Deleting.inherited, Deleting.deleted, Deleting.deleted_each, Deleting.kept_run, inner.MergeActs.merge_limits, inner.Wholes.WholeInput}
+use Rattle.edits.specs.{inner.Acts.Acts, inner.Charges.running, Deleting.current, Deleting.survives, Deleting.inherited, Deleting.deleted, Deleting.deleted_each, Deleting.kept_run, inner.MergeActs.merge_limits, inner.Wholes.WholeInput}
 
 -- a buffer with output and a glyph at the cursor
 pub record Deletable (b : Buffer) (run other : List ℕ) : Type 0 where
@@ -45,11 +46,6 @@ pub record LastFound (separate : Bool) (idx out_length : ℕ) (run other : List 
 pub record Surviving (separate : Bool) (idx len out_length : ℕ) (run other : List ℕ) (t : Bool) : Type 0 where
   pub is : (b : Buffer) → let x = laid separate b.level b.wants idx len out_length b in Deletable x run other → t ≡ survives (clusters (account_of x run other).rest) (clusters (account_of x run other).done)
 
--- the same, wherever the run lies
-pub record SurvivingBy (swapped separate : Bool) (idx len out_length : ℕ) (f s : List ℕ) (t : Bool) : Type 0 where
-  pub first : swapped ≡ false → Surviving separate idx len out_length f s t
-  pub second : swapped ≡ true → Surviving separate idx len out_length s f t
-
 -- and what was done
 pub record Inherits (separate : Bool) (idx out_length : ℕ) (run other run' other' : List ℕ) : Type 0 where
   pub acts : (b : Buffer) → let x = laid separate b.level b.wants idx b.len.0 out_length b in Deletable x run other → Acts inheriting x run other x run' other'
@@ -62,7 +58,7 @@ pub record Deletes (separate : Bool) (level wants idx len out_length : ℕ) (mer
 
 -- the verdict on the call, once it is known whether two glyphs were merged
 abbrev pub merged_with : Bool → Verdict → Verdict
-merged_with merged v = left_with (merge_limits merged 2 v.limits) v
+merged_with m v = limiting_verdict (merge_limits m 2 v.limits) v
 
 -- ---- 21
 -- a glyph goes from place i to place k, with its position where there are positions
@@ -82,4 +78,4 @@ pub record Sifts (slot mask value : ℕ) (positions : Bool) (level wants n : ℕ
 
 -- the verdict on it, once it is known what is left
 abbrev pub kept_with : Kept → Verdict → Verdict
-kept_with k v = record { idx = v.idx; len = k.len; out_len = v.out_len; limits = k.limits; apart = v.apart; acts = v.acts; answer = v.answer }
+kept_with k v = record { idx = v.idx; len = k.len; out_len = v.out_len; limits = k.limits; apart = v.apart; acts = v.acts; value = v.value }

@@ -1,12 +1,13 @@
 -- What the functions that flag ask for and leave, over the glyphs of whole slices, and what is promised of the verdicts. Places count in the slices.
+use Rattle.lists.specs.inner.States.{Decision}
+use Rattle.lists.specs.inner.Verdicts.{acts_of}
 use mathlib.Core.{Path.◌≡◌, Bool.Bool, Bool.true, Bool.false, Bool.cond, Bool.not, Bool.◌||◌, List.List}
-use Rattle.std.specs.Prelude.{ℕ, ◌-◌, ◌≤◌, min}
+use Rattle.std.specs.Prelude.{Option, ℕ, ◌-◌, ◌≤◌, min}
 use lib.{Dec.ltb, ListN.length, Seq.slice}
-use Rattle.records.specs.{Glyphs.Glyph, Glyphs.flagged, Ranges.clusters, Ranges.edit, View.glyphs}
-use Rattle.lists.specs.{declared.Buffer.Buffer, declared.Verdict.Verdict}
-use Rattle.lists.specs.{Account.Account, Account.read_level, inner.Verdicts.settled, inner.Verdicts.Decided}
-use Rattle.edits.specs.{declared.InputBound.InputBound, declared.DoneBound.DoneBound}
-use Rattle.edits.specs.{Flags.input_bound, inner.BoundNumbers.input_number, Flags.done_bound, inner.BoundNumbers.done_number}
+use Rattle.records.specs.{DonePlace, InputPlace, Glyphs.Glyph, Glyphs.flagged, Ranges.clusters, Ranges.edit, View.glyphs}
+use Rattle.lists.specs.{declared.Buffer.Buffer, declared.Lists.Lists, declared.Reply.Reply}
+use Rattle.lists.specs.{Account.Account, Account.read_level, Contract.Meets, inner.Verdicts.settled, inner.Verdicts.Decided}
+use Rattle.edits.specs.{inner.Acts.lists_of, inner.BoundNumbers.input_number, inner.BoundNumbers.done_number}
 use Rattle.edits.specs.Flags.{interior, search_level, sought, wants_concat, start_of, end_of, plain_form, outbuffer_form, flag_out_interior, flag_out_all}
 
 -- the run after a plain form
@@ -22,10 +23,6 @@ flagged_part interiorly level m bits i j l = cond interiorly (interior level m b
 unfoldable pub sought_out : (level s out_length idx e : ℕ) → (run out : List (Glyph ℕ)) → ℕ
 sought_out level s out_length idx e run out = min (sought level (slice s out_length (clusters out))) (sought level (slice idx e (clusters run)))
 
--- of the two slices, the second of which holds the run if x is true
-unfoldable pub sought_in : (x separate : Bool) (level idx out_length s e : ℕ) (f g : List ℕ) → ℕ
-sought_in x separate level idx out_length s e f g = sought_out level s out_length idx e (glyphs (cond x g f)) (cond separate (glyphs (cond x f g)) (glyphs (cond x g f)))
-
 unfoldable pub flag_out : (interiorly : Bool) → ℕ → ℕ → ℕ → Account ℕ → Account ℕ
 flag_out interiorly bits i j a = cond interiorly (flag_out_interior bits i j a) (flag_out_all bits i j a)
 
@@ -35,43 +32,41 @@ pub record Flaggable (i j : ℕ) (f s : List ℕ) : Type 0 where
   pub same : length (glyphs f) ≡ length (glyphs s)
   pub fits : j ≤ length (glyphs f)
 
--- s..out_length and idx..e are
-pub record OutFlaggable (idx out_length s e : ℕ) (first second : List ℕ) : Type 0 where
-  pub order : s ≤ out_length
-  pub start : idx ≤ e
-  pub same : length (glyphs first) ≡ length (glyphs second)
-  pub out-fits : out_length ≤ length (glyphs first)
-  pub fits : e ≤ length (glyphs first)
+-- s to the output's end and the cursor to e are
+pub record OutFlaggable (at : Lists) (s e : ℕ) (run other : List ℕ) : Type 0 where
+  pub order : s ≤ at.out_len
+  pub start : at.idx ≤ e
+  pub same : length (glyphs run) ≡ length (glyphs other)
+  pub out-fits : at.out_len ≤ length (glyphs run)
+  pub fits : e ≤ length (glyphs run)
 
 -- a plain form went over the places i..j of the run
 pub record Flagged (interiorly : Bool) (level bits i j : ℕ) (run other run' other' : List ℕ) : Type 0 where
   pub run_is : glyphs run' ≡ flagged_run interiorly level bits i j (glyphs run)
   pub other-is : other' ≡ other
 
--- the interior form did, for m
-pub record Marked (level m bits i j : ℕ) (run other run' other' : List ℕ) : Type 0 where
-  pub run_is : glyphs run' ≡ interior level m bits i j (glyphs run)
-  pub other-is : other' ≡ other
-
--- an outbuffer form: h of the output's glyphs, then k of the run's
-pub record OutMarked (separate : Bool) (h k : List (Glyph ℕ) → List (Glyph ℕ)) (run other run' other' : List ℕ) : Type 0 where
-  pub apart : separate ≡ true → (glyphs run' ≡ k (glyphs run)) × (glyphs other' ≡ h (glyphs other))
-  pub within : separate ≡ false → (glyphs run' ≡ k (h (glyphs run))) × (other' ≡ other)
-
-pub record OutFlagged (separate interiorly : Bool) (level bits idx out_length s e : ℕ) (run other run' other' : List ℕ) : Type 0 where
-  pub is : (let m = sought_out level s out_length idx e (glyphs run) (cond separate (glyphs other) (glyphs run)) in
-      OutMarked separate (flagged_part interiorly level m bits s out_length) (flagged_part interiorly level m bits idx e) run other run' other')
+-- an outbuffer form: the output's glyphs, then the run's
+pub record OutFlagged (interiorly : Bool) (level bits : ℕ) (at : Lists) (s e : ℕ) (run other run' other' : List ℕ) : Type 0 where
+  pub m : ℕ
+  pub m-is : interiorly ≡ true → m ≡ sought_out level s at.out_len at.idx e (glyphs run) (cond at.separate (glyphs other) (glyphs run))
+  pub apart : at.separate ≡ true → (glyphs run' ≡ flagged_part interiorly level m bits at.idx e (glyphs run)) × (glyphs other' ≡ flagged_part interiorly level m bits s at.out_len (glyphs other))
+  pub within : at.separate ≡ false → (glyphs run' ≡ flagged_part interiorly level m bits at.idx e (flagged_part interiorly level m bits s at.out_len (glyphs run))) × (other' ≡ other)
 
 -- what is promised of a verdict on a plain form, whatever it marks with; only a concat form may be unwanted
-pub record FlagsInput (concat : Bool) (start end : InputBound) (b : Buffer) (f s : List ℕ) (v : Verdict) : Type 0 where
-  pub is : (interiorly : Bool) (bits : ℕ → ℕ)
-      → Decided (λ capacity a. plain_form interiorly (not concat || wants_concat a.state.wants) (bits a.state.wants) (input_bound start) (input_bound end) a) b f s (settled b v) v.acts
-      (Flaggable (start_of (input_number start)) (end_of (input_number end) b.len.0) f s)
-      (Flagged interiorly (search_level (read_level b.level) b.wants) (bits b.wants) (start_of (input_number start)) (end_of (input_number end) b.len.0))
+pub record FlagsInput (concat : Bool) (start end : Option InputPlace) (b : Buffer) (f s : List ℕ) (d : Decision) : Type 0 where
+  pub is : (interiorly : Bool) (bits : ℕ → ℕ) {i j : ℕ} → i ≡ start_of (input_number start) → j ≡ end_of (input_number end) b.len.0
+      → Decided (λ capacity a. plain_form interiorly (not concat || wants_concat a.state.wants) (bits a.state.wants) start end a) b f s (settled b d) (acts_of d)
+      (Flaggable i j f s) (Flagged interiorly (search_level (read_level b.level) b.wants) (bits b.wants) i j)
 
 -- and on an outbuffer form
-pub record FlagsOut (concat : Bool) (start : DoneBound) (end : InputBound) (b : Buffer) (f s : List ℕ) (v : Verdict) : Type 0 where
-  pub is : (interiorly : Bool) (bits : ℕ → ℕ)
-      → Decided (λ capacity a. outbuffer_form interiorly (not concat || wants_concat a.state.wants) (bits a.state.wants) (done_bound start) (input_bound end) a) b f s (settled b v) v.acts
-      (OutFlaggable b.idx.0 b.out_len.0 (start_of (done_number start)) (end_of (input_number end) b.len.0) f s)
-      (OutFlagged b.have_separate_output interiorly (search_level (read_level b.level) b.wants) (bits b.wants) b.idx.0 b.out_len.0 (start_of (done_number start)) (end_of (input_number end) b.len.0))
+pub record FlagsOut (concat : Bool) (start : Option DonePlace) (end : Option InputPlace) (b : Buffer) (f s : List ℕ) (d : Decision) : Type 0 where
+  pub is : (interiorly : Bool) (bits : ℕ → ℕ) {i j : ℕ} → i ≡ start_of (done_number start) → j ≡ end_of (input_number end) b.len.0
+      → Decided (λ capacity a. outbuffer_form interiorly (not concat || wants_concat a.state.wants) (bits a.state.wants) start end a) b f s (settled b d) (acts_of d)
+      (OutFlaggable (lists_of b) i j f s) (OutFlagged interiorly (search_level (read_level b.level) b.wants) (bits b.wants) (lists_of b) i j)
+
+-- and of the call: `bits` is what some function of wants has at the buffer's
+pub record PlainMeets (concat : Bool) (bits : ℕ) (start end : Option InputPlace) (b : Buffer) (f s : List ℕ) (r : Reply) (f' s' : List ℕ) : Type 0 where
+  pub is : (g : ℕ → ℕ) → bits ≡ g b.wants → Meets (λ capacity a. plain_form (not concat) (not concat || wants_concat a.state.wants) (g a.state.wants) start end a) b f s r f' s'
+
+pub record OutMeets (concat : Bool) (bits : ℕ) (start : Option DonePlace) (end : Option InputPlace) (b : Buffer) (f s : List ℕ) (r : Reply) (f' s' : List ℕ) : Type 0 where
+  pub is : (g : ℕ → ℕ) → bits ≡ g b.wants → Meets (λ capacity a. outbuffer_form (not concat) (not concat || wants_concat a.state.wants) (g a.state.wants) start end a) b f s r f' s'

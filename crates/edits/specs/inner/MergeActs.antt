@@ -1,10 +1,12 @@
 -- Merges by places: what they ask for and leave, and what is promised of a verdict on a merge.
+use Rattle.lists.specs.inner.States.{Decision}
+use Rattle.lists.specs.inner.Verdicts.{acts_of}
 use mathlib.Core.{Path.◌≡◌, Bool.Bool, Bool.false, Bool.cond, Bool.◌&&◌, List.List}
 use Rattle.std.specs.Prelude.{ℕ, ◌-◌, ◌≤◌}
 use lib.{Dec.leb, ListN.length}
 use Rattle.records.specs.{DonePlace, InputPlace, Limits, Counters.costs, View.glyphs}
-use Rattle.lists.specs.{declared.Buffer.Buffer, declared.Verdict.Verdict}
-use Rattle.lists.specs.{Account.output_phase, Account.read_level, Contract.gone_of, inner.States.with_limits_of, inner.Verdicts.settled, inner.Verdicts.Decided}
+use Rattle.lists.specs.{declared.Buffer.Buffer, declared.Reply.Reply}
+use Rattle.lists.specs.{Account.output_phase, Account.read_level, Contract.gone_of, Contract.Meets, inner.States.with_limits_of, inner.Verdicts.settled, inner.Verdicts.Decided}
 use Rattle.edits.specs.{inner.Acts.Acts, inner.Acts.Mergeful, inner.Acts.OutMergeful, Merging.merge, Merging.merge_input, Merging.merge_out, Merging.merge_done}
 
 -- what a merge of n glyphs leaves of the limits
@@ -34,8 +36,12 @@ pub record Merges (apart merges : Bool) (level wants idx len out_length s e : �
   pub apart-only : apart ≡ false → other' ≡ other
 
 -- 11 and 13, of a call that merges at the levels `at`
-pub record MergesInput (merges : Bool) (s e : InputPlace) (b : Buffer) (f g : List ℕ) (v : Verdict) : Type 0 where
-  pub is : (at : ℕ → Bool) → merges ≡ at (read_level b.level) → (apart : Bool) → apart ≡ lies_apart b → Decided (λ capacity a. merge_input at s e a) b f g (settled b v) v.acts (MergeRoom b.len.0 b.out_len.0 s.0 e.0 f g) (Merges apart merges b.level b.wants b.idx.0 b.len.0 b.out_len.0 s.0 e.0)
+pub record MergesInput (merges : Bool) (s e : InputPlace) (b : Buffer) (f g : List ℕ) (d : Decision) : Type 0 where
+  pub is : (at : ℕ → Bool) → merges ≡ at (read_level b.level) → (apart : Bool) → apart ≡ lies_apart b → Decided (λ capacity a. merge_input at s e a) b f g (settled b d) (acts_of d) (MergeRoom b.len.0 b.out_len.0 s.0 e.0 f g) (Merges apart merges b.level b.wants b.idx.0 b.len.0 b.out_len.0 s.0 e.0)
+
+-- and the call itself
+pub record MeetsInput (merges : Bool) (s e : InputPlace) (b : Buffer) (f g : List ℕ) (r : Reply) (f' g' : List ℕ) : Type 0 where
+  pub is : (at : ℕ → Bool) → merges ≡ at (read_level b.level) → Meets (λ capacity a. merge_input at s e a) b f g r f' g'
 
 -- s..e is a range of the output, in slices that are large enough
 pub record OutMergeRoom (idx len out_length s e : ℕ) (run other : List ℕ) : Type 0 where
@@ -52,5 +58,8 @@ pub record OutMerges (separate merges : Bool) (idx len out_length s e : ℕ) (ru
       → Acts (merge_out merges s e) (placed idx len out_length b.level b.wants b) run other (with_limits_of (merge_limits merges (e - s) b.limits) (placed idx len out_length b.level b.wants b)) run' other'
 
 -- 12 and 14
-pub record MergesDone (merges : Bool) (s e : DonePlace) (b : Buffer) (f g : List ℕ) (v : Verdict) : Type 0 where
-  pub is : (at : ℕ → Bool) → merges ≡ at (read_level b.level) → Decided (λ capacity a. merge_done at s e a) b f g (settled b v) v.acts (OutMergeRoom b.idx.0 b.len.0 b.out_len.0 s.0 e.0 f g) (OutMerges b.have_separate_output merges b.idx.0 b.len.0 b.out_len.0 s.0 e.0)
+pub record MergesDone (merges : Bool) (s e : DonePlace) (b : Buffer) (f g : List ℕ) (d : Decision) : Type 0 where
+  pub is : (at : ℕ → Bool) → merges ≡ at (read_level b.level) → Decided (λ capacity a. merge_done at s e a) b f g (settled b d) (acts_of d) (OutMergeRoom b.idx.0 b.len.0 b.out_len.0 s.0 e.0 f g) (OutMerges b.have_separate_output merges b.idx.0 b.len.0 b.out_len.0 s.0 e.0)
+
+pub record MeetsDone (merges : Bool) (s e : DonePlace) (b : Buffer) (f g : List ℕ) (r : Reply) (f' g' : List ℕ) : Type 0 where
+  pub is : (at : ℕ → Bool) → merges ≡ at (read_level b.level) → Meets (λ capacity a. merge_done at s e a) b f g r f' g'

@@ -1,10 +1,12 @@
 -- What `reverse_range` comes to, and what the functions below the reversals leave.
-use mathlib.Core.{Path.◌≡◌, Bool.Bool, Bool.true, Bool.cond, List.List}
-use Rattle.std.specs.Prelude.{ℕ, ◌≤◌}
+use Rattle.lists.specs.inner.States.{Decision}
+use Rattle.lists.specs.inner.Verdicts.{acts_of}
+use mathlib.Core.{Path.◌≡◌, Bool.Bool, Bool.true, Bool.false, Bool.cond, List.List, List.◌∷◌}
+use Rattle.std.specs.Prelude.{ℕ, ◌-◌, ◌<◌, ◌≤◌}
 use lib.{ListN.take, ListN.drop}
-use Rattle.records.specs.{Phase, InputPlace, Limits, Glyphs.Glyph, Ranges.infos, View.glyphs, View.positions_in}
-use Rattle.lists.specs.{declared.Buffer.Buffer, declared.Verdict.Verdict}
-use Rattle.lists.specs.{Account.Account, Account.positions_phase, Account.with_rest, Contract.shown, inner.Turned.turned, inner.Verdicts.settled, inner.Verdicts.Decided}
+use Rattle.records.specs.{Phase, InputPlace, Limits, Glyphs.Glyph, Glyphs.Info, Ranges.infos, View.glyphs, View.positions_in}
+use Rattle.lists.specs.{declared.Buffer.Buffer}
+use Rattle.lists.specs.{Account.Account, Account.positions_phase, Account.spoiled_phase, Account.with_rest, Contract.shown, inner.Turned.turned, inner.Verdicts.settled, inner.Verdicts.Decided}
 use Rattle.edits.specs.{inner.Charges.Charges, Groups.group_sizes, Groups.continues, Groups.merged_each, Groups.regrouped, WholeRun.reverse_range, inner.Wholes.WholeInput, inner.Wholes.RunOf}
 
 -- a range the other way round; positions, where there are any, go with their glyphs
@@ -18,12 +20,19 @@ pub record Rearranges (h : List (Glyph ℕ) → List (Glyph ℕ)) (phase : Phase
   pub run-behind : drop n (glyphs run') ≡ drop n (glyphs run)
   pub other-behind : drop n (positions_in other') ≡ drop n (positions_in other)
 
-pub record ReversesRange (start stop : InputPlace) (b : Buffer) (f s : List ℕ) (v : Verdict) : Type 0 where
-  pub is : Decided (λ capacity a. reverse_range start stop a) b f s (settled b v) v.acts ((start.0 ≤ stop.0) × RunOf b.phase stop.0 f s) (Turns b.phase start.0 stop.0)
+pub record ReversesRange (start stop : InputPlace) (b : Buffer) (f s : List ℕ) (d : Decision) : Type 0 where
+  pub is : Decided (λ capacity a. reverse_range start stop a) b f s (settled b d) (acts_of d) ((start.0 ≤ stop.0) × RunOf b.phase stop.0 f s) (Turns b.phase start.0 stop.0)
 
--- ---- 1E
-pub record TurnsGraphemes (phase : Phase) (n slot mask : ℕ) (run other run' other' : List ℕ) : Type 0 where
-  pub is : Rearranges (λ l. regrouped (group_sizes (continues slot mask) (infos l)) l) phase n run other run' other'
+-- ---- 1D, 1E
+-- of the first len glyphs of a run, a group from s to e; `p x y` says that y goes on with the group of x
+pub record Group (p : Info → Info → Bool) (l : List (Glyph ℕ)) (len s e : ℕ) : Type 0 where
+  pub after : s < e
+  pub inside : e ≤ len
+  pub is : group_sizes p (drop s (infos (take len l))) ≡ (e - s) ∷ group_sizes p (drop e (infos (take len l)))
+
+-- the same in every phase that has lists
+pub record EndsGroup (p : Info → Info → Bool) (run : List ℕ) (s len e : ℕ) : Type 0 where
+  pub is : (phase : Phase) (other : List ℕ) → spoiled_phase phase ≡ false → Group p (shown phase run other) len s e
 
 -- a whole run in this phase
 pub record InPhase (phase : Phase) (b : Buffer) (run other : List ℕ) : Type 0 where

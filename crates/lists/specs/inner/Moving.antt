@@ -1,15 +1,15 @@
 -- What the moves of glyphs ask for and leave, and what the parts of `move_to` ask for.
 use mathlib.Core.{Path.◌≡◌, Bool.Bool, Bool.true, Bool.false, Bool.cond, List.List, List.◌++◌}
-use Rattle.std.specs.Prelude.{ℕ, ◌+◌, ◌-◌, ◌≤◌, ◌<◌, length, drop, replicate}
-use Rattle.records.specs.{Value, Counters.costs, Counters.grown, Counters.is_negative, Glyphs.zero_position, View.glyphs, View.positions_in}
-use Rattle.lists.specs.{declared.Buffer.Buffer, declared.Verdict.Verdict}
+use Rattle.std.specs.Prelude.{ℕ, ◌+◌, ◌-◌, ◌≤◌, ◌<◌, length, drop, replicate, Ok, Err, Some}
+use Rattle.records.specs.{Counters.costs, Counters.grown, Counters.is_negative, Glyphs.zero_position, View.glyphs, View.positions_in}
+use Rattle.lists.specs.{declared.Buffer.Buffer}
 use Rattle.lists.specs.Account.{Account, output_phase}
 use Rattle.lists.specs.inner.Copied.{copied}
 use Rattle.lists.specs.Cursor.{move_to, forward, backward}
 use Rattle.lists.specs.Account.{Result}
 use Rattle.lists.specs.{Contract.sound}
-use Rattle.lists.specs.inner.States.{with_limits_of, at_places}
-use Rattle.lists.specs.inner.Verdicts.{leaving, settled, Decided}
+use Rattle.lists.specs.inner.States.{Decision, with_limits_of, at_places}
+use Rattle.lists.specs.inner.Verdicts.{leaving, acts_of, settled, Decided}
 
 -- n glyphs of one slice, from place `from` on, can go to place `to` of either
 pub record Carriable (from to n : ℕ) (f s : List ℕ) : Type 0 where
@@ -76,44 +76,51 @@ pub record BackOver (b : Buffer) (n : ℕ) (f s : List ℕ) : Type 0 where
   pub past : b.idx.0 < n
 
 -- forward by n, once the size is there and its cost is paid
-unfoldable pub forward_verdict : ℕ → Buffer → Verdict
+unfoldable pub forward_verdict : ℕ → Buffer → Decision
 forward_verdict n b =
     let limits = costs n (grown (b.out_len.0 + n) b.limits) in
     let paid = with_limits_of limits b in
-    cond (is_negative limits.max_ops) (leaving paid false (Value 0)) (leaving (at_places (b.idx.0 + n) b.len.0 (b.out_len.0 + n) paid) true (Value 1))
+    cond (is_negative limits.max_ops) (leaving paid false (Some 0)) (leaving (at_places (b.idx.0 + n) b.len.0 (b.out_len.0 + n) paid) true (Some 1))
 
-pub record Forwards (n : ℕ) (b : Buffer) (v : Verdict) : Type 0 where
-  pub is : v ≡ forward_verdict n b
+pub record Forwards (n : ℕ) (b : Buffer) (d : Decision) : Type 0 where
+  pub is : d ≡ forward_verdict n b
 
 -- back by n, once its cost is paid; `shifts`: the input has gone up for it
-unfoldable pub back_verdict : ℕ → Bool → Buffer → Verdict
+unfoldable pub back_verdict : ℕ → Bool → Buffer → Decision
 back_verdict n shifts b =
     let paid = with_limits_of (costs n b.limits) b in
-    cond (is_negative (costs n b.limits).max_ops) (leaving paid shifts (Value 0)) (leaving (at_places (b.idx.0 - n) b.len.0 (b.out_len.0 - n) paid) true (Value 1))
+    cond (is_negative (costs n b.limits).max_ops) (leaving paid shifts (Some 0)) (leaving (at_places (b.idx.0 - n) b.len.0 (b.out_len.0 - n) paid) true (Some 1))
 
-pub record Backs (n : ℕ) (shifts : Bool) (b : Buffer) (v : Verdict) : Type 0 where
-  pub is : v ≡ back_verdict n shifts b
+pub record Backs (n : ℕ) (shifts : Bool) (b : Buffer) (d : Decision) : Type 0 where
+  pub is : d ≡ back_verdict n shifts b
 
 -- the same over the start of the input: the cost of its going up first
-unfoldable pub shift_verdict : ℕ → Buffer → Verdict
+unfoldable pub shift_verdict : ℕ → Buffer → Decision
 shift_verdict n b =
     let left = b.len.0 - b.idx.0 in
     let limits = costs left (grown (left + n) b.limits) in
     let paid = with_limits_of limits b in
-    cond (is_negative limits.max_ops) (leaving paid false (Value 0)) (back_verdict n true (at_places n (left + n) b.out_len.0 paid))
+    cond (is_negative limits.max_ops) (leaving paid false (Some 0)) (back_verdict n true (at_places n (left + n) b.out_len.0 paid))
 
-pub record Shifts (n : ℕ) (b : Buffer) (v : Verdict) : Type 0 where
-  pub is : v ≡ shift_verdict n b
+pub record Shifts (n : ℕ) (b : Buffer) (d : Decision) : Type 0 where
+  pub is : d ≡ shift_verdict n b
+
+-- the lengths after it
+abbrev pub len_of : Decision → ℕ
+len_of d = elim d [ Ok v ↦ v.len | Err why ↦ 0 ]
+
+abbrev pub out_len_of : Decision → ℕ
+out_len_of d = elim d [ Ok v ↦ v.out_len | Err why ↦ 0 ]
 
 -- what is promised of a verdict on `move_to` and its parts
-abbrev MoveDecided : (ℕ → Account ℕ → Result ℕ) → Buffer → (f s : List ℕ) → Verdict → Type 0
-MoveDecided call b f s v = Decided call b f s (settled b v) v.acts (Movable b.have_separate_output b.idx.0 b.len.0 b.out_len.0 v.len v.out_len f s) (Moved b.have_separate_output b.idx.0 b.len.0 b.out_len.0 v.len v.out_len)
+abbrev MoveDecided : (ℕ → Account ℕ → Result ℕ) → Buffer → (f s : List ℕ) → Decision → Type 0
+MoveDecided call b f s d = Decided call b f s (settled b d) (acts_of d) (Movable b.have_separate_output b.idx.0 b.len.0 b.out_len.0 (len_of d) (out_len_of d) f s) (Moved b.have_separate_output b.idx.0 b.len.0 b.out_len.0 (len_of d) (out_len_of d))
 
-pub record MovesForward (n : ℕ) (b : Buffer) (f s : List ℕ) (v : Verdict) : Type 0 where
-  pub is : MoveDecided (λ capacity a. forward capacity n a) b f s v
+pub record MovesForward (n : ℕ) (b : Buffer) (f s : List ℕ) (d : Decision) : Type 0 where
+  pub is : MoveDecided (λ capacity a. forward capacity n a) b f s d
 
-pub record MovesBack (n : ℕ) (b : Buffer) (f s : List ℕ) (v : Verdict) : Type 0 where
-  pub is : MoveDecided (λ capacity a. backward capacity n a) b f s v
+pub record MovesBack (n : ℕ) (b : Buffer) (f s : List ℕ) (d : Decision) : Type 0 where
+  pub is : MoveDecided (λ capacity a. backward capacity n a) b f s d
 
-pub record MovesTo (i : ℕ) (b : Buffer) (f s : List ℕ) (v : Verdict) : Type 0 where
-  pub is : MoveDecided (λ capacity a. move_to capacity i a) b f s v
+pub record MovesTo (i : ℕ) (b : Buffer) (f s : List ℕ) (d : Decision) : Type 0 where
+  pub is : MoveDecided (λ capacity a. move_to capacity i a) b f s d

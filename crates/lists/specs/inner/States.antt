@@ -1,9 +1,14 @@
 -- The states that the functions make of one another.
 use mathlib.Core.{Bool.true, Bool.false, Bool.cond, Bool.not}
 use Rattle.std.specs.Prelude.{ℕ}
-use Rattle.records.specs.{Plain, Output, Positions, Spoiled, Limits, Answer, Counters.fresh_limits}
-use Rattle.lists.specs.{declared.Buffer.Buffer, declared.Reply.Reply}
+use Rattle.std.specs.Prelude.{Result}
+use Rattle.records.specs.{Plain, Output, Positions, Spoiled, Limits, Refusal, Answer, Counters.fresh_limits}
+use Rattle.lists.specs.{declared.Buffer.Buffer, declared.Reply.Reply, declared.Verdict.Verdict}
 use Rattle.lists.specs.Account.{output_phase}
+
+-- what a call comes to
+abbrev pub Decision : Type 0
+Decision = Result Verdict Refusal
 
 abbrev pub reply : Buffer → Answer → Reply
 reply b a = record { buffer = b; answer = a }

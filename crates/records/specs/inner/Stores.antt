@@ -2,6 +2,7 @@
 use mathlib.Core.{Path.◌≡◌, List.List}
 use Rattle.std.specs.Prelude.{ℕ, ◌<◌, ◌≢◌}
 use lib.{ListN.length}
+use Rattle.records.specs.{declared.GlyphInfo.GlyphInfo}
 use Rattle.records.specs.Counters.{capacity_of}
 use Rattle.records.specs.Glyphs.{Glyph}
 use Rattle.records.specs.View.{glyph_of, word}
@@ -17,3 +18,7 @@ pub record Put (ws ws' : List ℕ) (c i v : ℕ) : Type 0 where
   pub len : length ws' ≡ length ws
   pub here : word ws' c i ≡ v
   pub rest : (d j : ℕ) → d < 6 → j < capacity_of (length ws) → (d ≡ c → j ≢ i) → word ws' d j ≡ word ws d j
+
+-- the struct of a glyph whose words are all 0
+unfoldable pub blank_info : GlyphInfo
+blank_info = record { glyph = 0; mask = 0; cluster = 0; var0 = 0; var1 = 0; origin = 0 }

@@ -4,8 +4,8 @@ use lib.ListN.{length}
 use Rattle.commands.proofs.PartLaws.{Playing}
 use Rattle.commands.proofs.playing.play.Given as goal
 
-abbrev pub invariant-loop-here : goal.invariant-loop-here
-invariant-loop-here l = Playing l.script l.at l.initial.last.reply.buffer l.initial.first l.initial.second l.initial.out l.first l.second l.out l.last l.commands l.written
+abbrev pub invariant-steps : goal.invariant-steps
+invariant-steps l = Playing l.script l.at l.initial.last.reply.buffer l.initial.first l.initial.second l.initial.out l.first l.second l.out l.last l.commands l.written
 
-abbrev pub decreases-loop-here : goal.decreases-loop-here
-decreases-loop-here l = length l.script - l.last.next
+abbrev pub decreases-steps : goal.decreases-steps
+decreases-steps l = length l.script - l.last.next

@@ -5,14 +5,11 @@ use Rattle.commands.proofs.reports.report_line.Goals as goal
 pub returns-then-k-eq0 : goal.returns-then-k-eq0
 returns-then-k-eq0 c = search (prints-end, tested)
 
-pub totals-requires : goal.totals-requires
-totals-requires c = search tested
-
 pub returns-then-i-item_count : goal.returns-then-i-item_count
 returns-then-i-item_count c = search (prints-sum, tested)
 
-pub returns-then-is_sound : goal.returns-then-is_sound
-returns-then-is_sound c = search (prints-item, tested)
-
 pub returns : goal.returns
-returns c = search (prints-none, tested)
+returns c = search (prints-item, tested)
+
+pub returns-then-not-is_sound : goal.returns-then-not-is_sound
+returns-then-not-is_sound c = search (prints-none, tested)

@@ -1,6 +1,6 @@
-use borrow.Author.Rules.{rules}
+use Rattle.std.proofs.Common.{rules}
 use Rattle.commands.proofs.Claims.{claims}
 use Rattle.commands.proofs.runs.begin.Goals as goal
 
-pub returns : goal.returns
-returns c = search (claims, rules)
+pub returns-clause-claims : goal.returns-clause-claims
+returns-clause-claims c = search (claims, rules)

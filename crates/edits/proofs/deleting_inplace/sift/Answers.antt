@@ -3,12 +3,6 @@ use Rattle.edits.proofs.SiftedRuns.{sifting}
 use Rattle.edits.proofs.deleting_inplace.sift.Goals as goal
 use Rattle.edits.proofs.deleting_inplace.sift.Goals.{else-key_at-value, then-key_at-value}
 
-pub loop-idx-init : goal.loop-idx-init
-loop-idx-init c = search sifting
-
-pub key_at-requires : goal.key_at-requires
-key_at-requires c = search sifting
-
 pub keep_cluster-merged-requires : goal.keep_cluster-merged-requires
 keep_cluster-merged-requires c = search sifting
 

@@ -1,18 +1,12 @@
+use mathlib.Core.{Path.refl}
 use Rattle.std.proofs.Common.{rules}
-use Rattle.lists.proofs.Decisions.{ending}
-use Rattle.edits.proofs.Placings.{place-calls}
-use Rattle.edits.proofs.WholeCalls.{serving}
+use Rattle.lists.proofs.EitherSlice.{carried, may-act}
+use Rattle.edits.specs.inner.Fills.{Placeable}
+use Rattle.edits.proofs.Placings.{placeable-turned}
 use Rattle.edits.proofs.filling.place.Goals as goal
-use Rattle.edits.proofs.filling.place.Goals.{else-v, then-v}
 
-pub place_by-requires : goal.place_by-requires
-place_by-requires c = search place-calls
-
-pub shape_of-first : goal.shape_of-first
-shape_of-first c = elim c.if-v.branch [ then-v w ↦ search (ending, rules) | else-v w ↦ search (ending, rules) ]
-
-pub shape_of-second : goal.shape_of-second
-shape_of-second c = elim c.if-v.branch [ then-v w ↦ search (ending, rules) | else-v w ↦ search (ending, rules) ]
+pub carry_out-requires : goal.carry_out-requires
+carry_out-requires c = λ t. may-act (Placeable _) (λ run other. placeable-turned) ((c.place_verdict-decision.ensures.is 0 0 0 0).asked t) (λ p q w. search)
 
 pub returns : goal.returns
-returns c = serving (c.place_verdict-v.ensures.is _ _ _ _) (λ d. elim c.if-v.branch [ then-v w ↦ search ending | else-v w ↦ search ending ])
+returns c = carried (c.place_verdict-decision.ensures.is _ _ _ _) (λ x v. refl) c.carry_out.ensures (search rules) (search rules) (λ x run other run' other' a. search rules)

@@ -1,5 +1,5 @@
-use Rattle.edits.proofs.Placings.{place-calls}
+use Rattle.edits.proofs.Placings.{place_calls}
 use Rattle.edits.proofs.filling.place_at.Goals as goal
 
 pub returns : goal.returns
-returns c = search place-calls
+returns c = search place_calls

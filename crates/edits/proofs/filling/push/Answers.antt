@@ -1,18 +1,11 @@
-use Rattle.std.proofs.Common.{rules}
-use Rattle.lists.proofs.Decisions.{ending}
-use Rattle.edits.proofs.Lengths.{push-calls}
-use Rattle.edits.proofs.WholeCalls.{serving}
+use Rattle.std.proofs.Common.{refl, rules}
+use Rattle.lists.proofs.EitherSlice.{carried, may-act}
+use Rattle.edits.specs.inner.Fills.{Puttable}
+use Rattle.edits.proofs.Lengths.{puttable-turned, was-put}
 use Rattle.edits.proofs.filling.push.Goals as goal
-use Rattle.edits.proofs.filling.push.Goals.{else-v, then-v}
 
-pub put_by-requires : goal.put_by-requires
-put_by-requires c = search push-calls
-
-pub shape_of-first : goal.shape_of-first
-shape_of-first c = elim c.if-v.branch [ then-v w ↦ search (ending, rules) | else-v w ↦ search (ending, rules) ]
-
-pub shape_of-second : goal.shape_of-second
-shape_of-second c = elim c.if-v.branch [ then-v w ↦ search (ending, rules) | else-v w ↦ search (ending, rules) ]
+pub carry_out-requires : goal.carry_out-requires
+carry_out-requires c = λ t. may-act (Puttable _) (λ run other. puttable-turned) ((c.push_verdict-decision.ensures.is 0 0 refl).asked t) (λ p q w. search)
 
 pub returns : goal.returns
-returns c = serving (c.push_verdict-v.ensures.is _ _ c.next_push-origin.ensures) (λ d. elim c.if-v.branch [ then-v w ↦ search ending | else-v w ↦ search ending ])
+returns c = carried (c.push_verdict-decision.ensures.is _ _ c.next_push-origin.ensures) (λ x v. refl) c.carry_out.ensures (search rules) (search rules) (λ x run other run' other' a. search (was-put, rules))

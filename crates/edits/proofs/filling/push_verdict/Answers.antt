@@ -1,17 +1,17 @@
-use Rattle.edits.proofs.Lengths.{push-calls}
+use Rattle.edits.proofs.Lengths.{push_calls}
 use Rattle.edits.proofs.filling.push_verdict.Goals as goal
 
 pub returns-then-not_whole : goal.returns-then-not_whole
-returns-then-not_whole c = search push-calls
+returns-then-not_whole c = search push_calls
 
 pub returns-then-have_positions : goal.returns-then-have_positions
-returns-then-have_positions c = search push-calls
+returns-then-have_positions c = search push_calls
 
 pub overflow_add-n : goal.overflow_add-n
-overflow_add-n c = search push-calls
+overflow_add-n c = search push_calls
 
-pub returns-then-is_sound : goal.returns-then-is_sound
-returns-then-is_sound c = search push-calls
+pub returns-in_err-sound : goal.returns-in_err-sound
+returns-in_err-sound c = search push_calls
 
 pub returns : goal.returns
-returns c = search push-calls
+returns c = search push_calls

@@ -1,17 +1,12 @@
+use mathlib.Core.{Path.refl}
 use Rattle.std.proofs.Common.{rules}
-use Rattle.lists.proofs.Decisions.{ending}
-use Rattle.edits.proofs.SetLengths.{length-calls}
+use Rattle.lists.proofs.EitherSlice.{carried, may-act}
+use Rattle.edits.specs.inner.Wholes.{RunOf}
+use Rattle.edits.proofs.WholeCalls.{run-turned}
 use Rattle.edits.proofs.filling.set_length.Goals as goal
-use Rattle.edits.proofs.filling.set_length.Goals.{else-v, then-v}
 
-pub fill_by-requires : goal.fill_by-requires
-fill_by-requires c = search length-calls
-
-pub shape_of-first : goal.shape_of-first
-shape_of-first c = elim c.if-v.branch [ then-v w ↦ search (ending, rules) | else-v w ↦ search (ending, rules) ]
-
-pub shape_of-second : goal.shape_of-second
-shape_of-second c = elim c.if-v.branch [ then-v w ↦ search (ending, rules) | else-v w ↦ search (ending, rules) ]
+pub carry_out-requires : goal.carry_out-requires
+carry_out-requires c = λ t. may-act (RunOf _ _) (λ run other. run-turned) (c.length_verdict-decision.ensures.is.asked t) (λ p q w. search rules)
 
 pub returns : goal.returns
-returns c = elim c.if-v.branch [ then-v w ↦ search ending | else-v w ↦ search ending ]
+returns c = carried (c.length_verdict-decision.ensures.is) (λ x v. refl) c.carry_out.ensures (search rules) (search rules) (λ x run other run' other' a. search rules)

@@ -1,17 +1,6 @@
-use Rattle.std.proofs.Common.{rules}
-use Rattle.lists.proofs.Decisions.{end-acted, end-still, ending}
-use Rattle.edits.proofs.FlagCalls.{plain-tatweel, flagged-at, flag-calls}
+use Rattle.std.proofs.Common.{cond}
+use Rattle.edits.specs.Flags.{wants_tatweel}
 use Rattle.edits.proofs.flagging.safe_to_insert_tatweel.Goals as goal
-use Rattle.edits.proofs.flagging.safe_to_insert_tatweel.Goals.{else-v, then-v}
-
-pub flag_by-requires : goal.flag_by-requires
-flag_by-requires c = search flag-calls
-
-pub shape_of-first : goal.shape_of-first
-shape_of-first c = elim c.if-v.branch [ then-v w ↦ search (ending, rules) | else-v w ↦ search (ending, rules) ]
-
-pub shape_of-second : goal.shape_of-second
-shape_of-second c = elim c.if-v.branch [ then-v w ↦ search (ending, rules) | else-v w ↦ search (ending, rules) ]
 
 pub returns : goal.returns
-returns c = elim c.if-v.branch [ then-v w ↦ search (end-acted, plain-tatweel, flagged-at) | else-v w ↦ search (end-still, plain-tatweel) ]
+returns c = c.flag_plain.ensures.is (λ n. cond (wants_tatweel n) 4 3) c.tatweel_bits.ensures

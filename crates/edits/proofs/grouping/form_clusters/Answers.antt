@@ -1,18 +1,13 @@
+use mathlib.Core.{Path.refl}
 use Rattle.std.proofs.Common.{rules}
-use Rattle.lists.proofs.Decisions.{ending}
-use Rattle.edits.proofs.Charging.{serving-by, charging, ending-by}
-use Rattle.edits.proofs.MergeEach.{form-decided}
+use Rattle.lists.proofs.EitherSlice.{may-act}
+use Rattle.edits.proofs.EitherSlice.{carried-by}
+use Rattle.edits.specs.inner.Wholes.{RunRoom}
+use Rattle.edits.proofs.{Charging.keyed-room, MergeEach.form-decided, WholeCalls.room-turned}
 use Rattle.edits.proofs.grouping.form_clusters.Goals as goal
-use Rattle.edits.proofs.grouping.form_clusters.Goals.{else-v, then-v}
 
-pub merge_each_by-v-requires : goal.merge_each_by-v-requires
-merge_each_by-v-requires c = search charging
-
-pub shape_of-first : goal.shape_of-first
-shape_of-first c = elim c.if-v.branch [ then-v w ↦ search (ending, rules) | else-v w ↦ search (ending, rules) ]
-
-pub shape_of-second : goal.shape_of-second
-shape_of-second c = elim c.if-v.branch [ then-v w ↦ search (ending, rules) | else-v w ↦ search (ending, rules) ]
+pub carry_out-requires : goal.carry_out-requires
+carry_out-requires c = λ t. may-act (RunRoom _) (λ run other. room-turned) (keyed-room c.keyed_verdict-decision.ensures refl t) (λ p q w. search rules)
 
 pub returns : goal.returns
-returns c = serving-by (form-decided _ c.graphemes_merge-merging.ensures c.keyed_verdict-v.ensures) (λ d. elim c.if-v.branch [ then-v w ↦ search ending-by | else-v w ↦ search ending-by ])
+returns c = carried-by (form-decided _ c.graphemes_merge.ensures c.keyed_verdict-decision.ensures) c.carry_out.ensures (search rules) (search rules) (λ x run other run' other' a. search rules)

@@ -2,9 +2,6 @@ use Rattle.edits.proofs.MergeLaws.{merging}
 use Rattle.std.proofs.Common.{rules}
 use Rattle.edits.proofs.merging.merge_apart.Goals as goal
 
-pub set_clusters-requires : goal.set_clusters-requires
-set_clusters-requires c = search (merging, rules)
-
 pub set_clusters-requires-2 : goal.set_clusters-requires-2
 set_clusters-requires-2 c = search (merging, rules)
 

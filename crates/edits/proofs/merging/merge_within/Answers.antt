@@ -3,11 +3,5 @@ use Rattle.edits.proofs.MergeLaws.{merging}
 use Rattle.std.proofs.Common.{rules}
 use Rattle.edits.proofs.merging.merge_within.Goals as goal
 
-pub set_clusters-requires : goal.set_clusters-requires
-set_clusters-requires c = search (merging, rules)
-
 pub set_clusters-requires-2 : goal.set_clusters-requires-2
 set_clusters-requires-2 c = search (merging, glyphs-same, rules)
-
-pub returns : goal.returns
-returns c = search merging

@@ -2,14 +2,8 @@ use Rattle.std.proofs.Common.{rules}
 use Rattle.edits.proofs.Propagations.{propagating}
 use Rattle.edits.proofs.propagating.propagate_each.Goals as goal
 
-pub loop-s-init : goal.loop-s-init
-loop-s-init c = search propagating
-
 pub propagate_group-requires : goal.propagate_group-requires
 propagate_group-requires c = search (propagating, rules)
-
-pub loop-s-smaller : goal.loop-s-smaller
-loop-s-smaller c = search propagating
 
 pub loop-s-preserved : goal.loop-s-preserved
 loop-s-preserved c = search propagating

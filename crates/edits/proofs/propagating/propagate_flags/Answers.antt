@@ -1,18 +1,13 @@
+use mathlib.Core.{Path.refl}
 use Rattle.std.proofs.Common.{rules}
-use Rattle.lists.proofs.Decisions.{ending}
-use Rattle.edits.proofs.Propagations.{propagating}
-use Rattle.edits.proofs.WholeCalls.{whole-calls}
+use Rattle.lists.proofs.EitherSlice.{carried, may-act}
+use Rattle.edits.specs.inner.Wholes.{RunOf}
+use Rattle.edits.proofs.WholeCalls.{run-turned}
+use Rattle.edits.proofs.Propagations.{propagate-decided}
 use Rattle.edits.proofs.propagating.propagate_flags.Goals as goal
-use Rattle.edits.proofs.propagating.propagate_flags.Goals.{else-v, then-v}
 
-pub propagate_by-requires : goal.propagate_by-requires
-propagate_by-requires c = search whole-calls
-
-pub shape_of-first : goal.shape_of-first
-shape_of-first c = elim c.if-v.branch [ then-v w ↦ search (ending, rules) | else-v w ↦ search (ending, rules) ]
-
-pub shape_of-second : goal.shape_of-second
-shape_of-second c = elim c.if-v.branch [ then-v w ↦ search (ending, rules) | else-v w ↦ search (ending, rules) ]
+pub carry_out-requires : goal.carry_out-requires
+carry_out-requires c = λ t. may-act (RunOf _ _) (λ run other. run-turned) ((propagate-decided c.whole_verdict-decision.ensures).asked t) (λ p q w. search rules)
 
 pub returns : goal.returns
-returns c = elim c.if-v.branch [ then-v w ↦ search (ending, propagating) | else-v w ↦ search (ending, propagating) ]
+returns c = carried (propagate-decided c.whole_verdict-decision.ensures) (λ x v. refl) c.carry_out.ensures (search rules) (search rules) (λ x run other run' other' a. search rules)

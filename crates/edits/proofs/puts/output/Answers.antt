@@ -1,5 +1,5 @@
-use Rattle.edits.proofs.PutLaws.{put-laws}
+use Rattle.edits.proofs.PutLaws.{put_laws}
 use Rattle.edits.proofs.puts.output.Goals as goal
 
 pub returns : goal.returns
-returns c = search put-laws
+returns c = search put_laws

@@ -4,14 +4,8 @@ use Rattle.records.proofs.View.{glyphs-fit}
 use Rattle.edits.proofs.Acting.{putting}
 use Rattle.edits.proofs.replace_acts.put_copies.Goals as goal
 
-pub loop-i-init : goal.loop-i-init
-loop-i-init c = search putting
-
 pub overflow_add-at : goal.overflow_add-at
 overflow_add-at c = omega (arith, glyphs-fit c.args.ws.now)
 
 pub loop-i-preserved : goal.loop-i-preserved
 loop-i-preserved c = search putting
-
-pub returns : goal.returns
-returns c = search putting

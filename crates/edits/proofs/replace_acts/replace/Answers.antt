@@ -1,4 +1,4 @@
-use Rattle.edits.proofs.PutLaws.{put-laws}
+use Rattle.edits.proofs.PutLaws.{put_laws}
 use Rattle.edits.proofs.Chaining.{stays-inside}
 use Rattle.std.proofs.Common.{rules}
 use Rattle.edits.proofs.replace_acts.replace.Goals as goal
@@ -7,7 +7,7 @@ pub get-g-requires : goal.get-g-requires
 get-g-requires c = search stays-inside
 
 pub write_copies-requires : goal.write_copies-requires
-write_copies-requires c = search (put-laws, rules)
+write_copies-requires c = search (put_laws, rules)
 
 pub returns : goal.returns
-returns c = search put-laws
+returns c = search put_laws

@@ -1,15 +1,7 @@
-use Rattle.edits.proofs.PutLaws.{put-laws}
 use Rattle.std.proofs.Common.{rules}
+use Rattle.lists.proofs.EitherSlice.{sided-acts}
+use Rattle.edits.proofs.PutLaws.{wrote-by}
 use Rattle.edits.proofs.replace_acts.write_copies.Goals as goal
 
-pub returns-then-separate : goal.returns-then-separate
-returns-then-separate c = search put-laws
-
-pub put_copies-requires-then-apart : goal.put_copies-requires-then-apart
-put_copies-requires-then-apart c = search (put-laws, rules)
-
-pub returns-then-apart : goal.returns-then-apart
-returns-then-apart c = search put-laws
-
 pub returns : goal.returns
-returns c = search put-laws
+returns c = wrote-by c.bring-lies_apart.ensures (sided-acts c.act_on.ensures (λ run other run' other' a. record { run_is = search rules; other-is = search rules }))

@@ -1,18 +1,12 @@
-use Rattle.std.proofs.Common.{zero-le, rules}
-use Rattle.lists.proofs.Decisions.{ending}
-use Rattle.edits.proofs.ReverseCalls.{reverse-calls}
-use Rattle.edits.proofs.WholeCalls.{whole-calls}
+use Rattle.std.proofs.Common.{refl, zero-le, rules}
+use Rattle.lists.proofs.EitherSlice.{carried, may-act}
+use Rattle.edits.specs.inner.Wholes.{RunOf}
+use Rattle.edits.proofs.ReverseCalls.{reverse-decided}
+use Rattle.edits.proofs.WholeCalls.{takes_run, run-turned}
 use Rattle.edits.proofs.reversing.reverse.Goals as goal
-use Rattle.edits.proofs.reversing.reverse.Goals.{else-v, then-v}
 
-pub turn_by-requires : goal.turn_by-requires
-turn_by-requires c = search (zero-le, whole-calls)
-
-pub shape_of-first : goal.shape_of-first
-shape_of-first c = elim c.if-v.branch [ then-v w ↦ search (ending, rules) | else-v w ↦ search (ending, rules) ]
-
-pub shape_of-second : goal.shape_of-second
-shape_of-second c = elim c.if-v.branch [ then-v w ↦ search (ending, rules) | else-v w ↦ search (ending, rules) ]
+pub carry_out-requires : goal.carry_out-requires
+carry_out-requires c = λ t. may-act (RunOf _ _) (λ run other. run-turned) (takes_run c.whole_verdict-decision.ensures refl t) (λ p q w. search (zero-le, rules))
 
 pub returns : goal.returns
-returns c = elim c.if-v.branch [ then-v w ↦ search (ending, reverse-calls) | else-v w ↦ search (ending, reverse-calls) ]
+returns c = carried (reverse-decided c.whole_verdict-decision.ensures) (λ x v. refl) c.carry_out.ensures (search rules) (search rules) (λ x run other run' other' a. search rules)

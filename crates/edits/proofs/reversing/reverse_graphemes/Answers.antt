@@ -1,18 +1,12 @@
 use Rattle.std.proofs.Common.{refl, rules}
-use Rattle.lists.proofs.Decisions.{ending}
-use Rattle.edits.proofs.Charging.{serving-by, charging, ending-by}
-use Rattle.edits.proofs.GraphemeCalls.{graphemes-decided}
+use Rattle.lists.proofs.EitherSlice.{may-act}
+use Rattle.edits.proofs.EitherSlice.{carried-by}
+use Rattle.edits.specs.inner.Wholes.{RunOf}
+use Rattle.edits.proofs.{Charging.keyed-run, GraphemeCalls.graphemes-decided, WholeCalls.run-turned}
 use Rattle.edits.proofs.reversing.reverse_graphemes.Goals as goal
-use Rattle.edits.proofs.reversing.reverse_graphemes.Goals.{else-v, then-v}
 
-pub regroup_by-v-requires : goal.regroup_by-v-requires
-regroup_by-v-requires c = search charging
-
-pub shape_of-first : goal.shape_of-first
-shape_of-first c = elim c.if-v.branch [ then-v w ↦ search (ending, rules) | else-v w ↦ search (ending, rules) ]
-
-pub shape_of-second : goal.shape_of-second
-shape_of-second c = elim c.if-v.branch [ then-v w ↦ search (ending, rules) | else-v w ↦ search (ending, rules) ]
+pub carry_out-requires : goal.carry_out-requires
+carry_out-requires c = λ t. may-act (RunOf _ _) (λ run other. run-turned) (keyed-run c.keyed_verdict-decision.ensures refl t) (λ p q w. search rules)
 
 pub returns : goal.returns
-returns c = serving-by (graphemes-decided _ c.read_level-merging.ensures refl c.keyed_verdict-v.ensures) (λ d. elim c.if-v.branch [ then-v w ↦ search ending-by | else-v w ↦ search ending-by ])
+returns c = carried-by (graphemes-decided _ c.read_level.ensures refl c.keyed_verdict-decision.ensures) c.carry_out.ensures (search rules) (search rules) (λ x run other run' other' a. search rules)

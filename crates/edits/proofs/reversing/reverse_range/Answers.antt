@@ -1,17 +1,12 @@
-use Rattle.std.proofs.Common.{rules}
-use Rattle.lists.proofs.Decisions.{ending}
-use Rattle.edits.proofs.ReverseCalls.{reverse-calls}
+use Rattle.std.proofs.Common.{refl, rules}
+use Rattle.lists.proofs.EitherSlice.{carried, may-act}
+use Rattle.edits.specs.inner.Wholes.{RunOf}
+use Rattle.edits.proofs.ReverseCalls.{range-order, range-run}
+use Rattle.edits.proofs.WholeCalls.{run-turned}
 use Rattle.edits.proofs.reversing.reverse_range.Goals as goal
-use Rattle.edits.proofs.reversing.reverse_range.Goals.{else-v, then-v}
 
-pub turn_by-requires : goal.turn_by-requires
-turn_by-requires c = search reverse-calls
-
-pub shape_of-first : goal.shape_of-first
-shape_of-first c = elim c.if-v.branch [ then-v w ↦ search (ending, rules) | else-v w ↦ search (ending, rules) ]
-
-pub shape_of-second : goal.shape_of-second
-shape_of-second c = elim c.if-v.branch [ then-v w ↦ search (ending, rules) | else-v w ↦ search (ending, rules) ]
+pub carry_out-requires : goal.carry_out-requires
+carry_out-requires c = λ t. let o = range-order c.range_verdict-decision.ensures t in may-act (RunOf _ _) (λ run other. run-turned) (range-run c.range_verdict-decision.ensures t) (λ p q w. search rules)
 
 pub returns : goal.returns
-returns c = elim c.if-v.branch [ then-v w ↦ search ending | else-v w ↦ search ending ]
+returns c = carried c.range_verdict-decision.ensures.is (λ x v. refl) c.carry_out.ensures (search rules) (search rules) (λ x run other run' other' a. search rules)

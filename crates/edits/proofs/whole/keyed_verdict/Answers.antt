@@ -7,8 +7,8 @@ returns-then-not_whole c = search charging
 pub returns-then-slot-gt1 : goal.returns-then-slot-gt1
 returns-then-slot-gt1 c = search charging
 
-pub returns-then-is_sound : goal.returns-then-is_sound
-returns-then-is_sound c = search charging
+pub returns-in_err-sound : goal.returns-in_err-sound
+returns-in_err-sound c = search charging
 
 pub returns : goal.returns
 returns c = search charging

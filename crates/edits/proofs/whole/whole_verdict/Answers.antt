@@ -4,8 +4,8 @@ use Rattle.edits.proofs.whole.whole_verdict.Goals as goal
 pub returns-then-not_whole : goal.returns-then-not_whole
 returns-then-not_whole c = search whole-calls
 
-pub returns-then-is_sound : goal.returns-then-is_sound
-returns-then-is_sound c = search whole-calls
+pub returns-in_err-sound : goal.returns-in_err-sound
+returns-in_err-sound c = search whole-calls
 
 pub returns : goal.returns
 returns c = search whole-calls

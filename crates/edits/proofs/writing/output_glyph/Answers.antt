@@ -1,16 +1,12 @@
+use mathlib.Core.{Path.refl}
 use Rattle.std.proofs.Common.{rules}
-use Rattle.lists.proofs.Decisions.{ending}
+use Rattle.lists.proofs.EitherSlice.{carried, may-act}
+use Rattle.edits.specs.inner.Puts.{Outputable}
+use Rattle.edits.proofs.PutLaws.{outputable-turned}
 use Rattle.edits.proofs.writing.output_glyph.Goals as goal
-use Rattle.edits.proofs.writing.output_glyph.Goals.{else-v, then-v}
 
-pub output_by-requires : goal.output_by-requires
-output_by-requires c = c.output_verdict-v.ensures.is.asked (search)
-
-pub shape_of-first : goal.shape_of-first
-shape_of-first c = elim c.if-v.branch [ then-v w ↦ search (ending, rules) | else-v w ↦ search (ending, rules) ]
-
-pub shape_of-second : goal.shape_of-second
-shape_of-second c = elim c.if-v.branch [ then-v w ↦ search (ending, rules) | else-v w ↦ search (ending, rules) ]
+pub carry_out-requires : goal.carry_out-requires
+carry_out-requires c = λ t. may-act (Outputable _) (λ run other. outputable-turned) (c.output_verdict-decision.ensures.is.asked t) (λ p q w. let e = c.lists_of-at.ensures in search rules)
 
 pub returns : goal.returns
-returns c = elim c.if-v.branch [ then-v w ↦ search ending | else-v w ↦ search ending ]
+returns c = carried c.output_verdict-decision.ensures.is (λ x v. refl) c.carry_out.ensures (search rules) (search rules) (λ x run other run' other' a. let e = c.lists_of-at.ensures in search rules)

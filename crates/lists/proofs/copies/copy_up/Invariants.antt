@@ -4,6 +4,3 @@ use Rattle.lists.proofs.copies.copy_up.Given as goal
 
 abbrev pub invariant-loop-i : goal.invariant-loop-i
 invariant-loop-i l = Rising l.initial.ws l.from l.to l.n l.ws l.i
-
-abbrev pub decreases-loop-i : goal.decreases-loop-i
-decreases-loop-i l = l.i

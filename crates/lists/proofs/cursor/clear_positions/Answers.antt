@@ -1,17 +1,17 @@
-use Rattle.lists.proofs.Decisions.{ending}
+use Rattle.std.proofs.Common.{◌≤◌, length}
+use Rattle.records.specs.View.{positions_in}
+use Rattle.lists.specs.inner.Moving.{Zeroed}
+use Rattle.lists.specs.inner.Verdicts.{Sided}
+use Rattle.lists.proofs.Carrying.{zeroed}
+use Rattle.lists.proofs.EitherSlice.{sided-acts}
 use Rattle.lists.proofs.PhaseCalls.{phase-calls}
 use borrow.Author.Rules.{rules}
 use Rattle.lists.proofs.cursor.clear_positions.Goals as goal
-use Rattle.lists.proofs.cursor.clear_positions.Goals.{else-v, then-v}
+use Rattle.lists.proofs.cursor.clear_positions.Goals.{else-acts, then-acts}
 
-pub zero_positions_by-requires : goal.zero_positions_by-requires
-zero_positions_by-requires c = search phase-calls
-
-pub shape_of-first : goal.shape_of-first
-shape_of-first c = elim c.if-v.branch [ then-v w ↦ search (ending, rules) | else-v w ↦ search (ending, rules) ]
-
-pub shape_of-second : goal.shape_of-second
-shape_of-second c = elim c.if-v.branch [ then-v w ↦ search (ending, rules) | else-v w ↦ search (ending, rules) ]
+pub act_on-requires : goal.act_on-requires
+act_on-requires c = let h : (c.args.b.len.0 ≤ length (positions_in c.args.first.now)) × (c.args.b.len.0 ≤ length (positions_in c.args.second.now)) = search phase-calls in search rules
 
 pub returns : goal.returns
-returns c = elim c.if-v.branch [ then-v w ↦ search phase-calls | else-v w ↦ search phase-calls ]
+returns c =
+    elim c.if-acts.branch [ then-acts w ↦ let act : Sided c.args.b.swapped (Zeroed c.args.b.len.0) c.args.first.now c.args.second.now w.act_on.new.first w.act_on.new.second = sided-acts w.act_on.ensures (λ run other run' other' a. search (zeroed, rules)) in search phase-calls | else-acts w ↦ search phase-calls ]

@@ -1,16 +1,7 @@
-use Rattle.lists.proofs.Decisions.{ending}
+use mathlib.Core.{Path.refl}
+use Rattle.lists.proofs.EitherSlice.{carried}
 use borrow.Author.Rules.{rules}
 use Rattle.lists.proofs.cursor.next_glyphs.Goals as goal
-use Rattle.lists.proofs.cursor.next_glyphs.Goals.{else-v, then-v}
-
-pub carry_by-requires : goal.carry_by-requires
-carry_by-requires c = c.next_verdict-v.ensures.asked (search)
-
-pub shape_of-first : goal.shape_of-first
-shape_of-first c = elim c.if-v.branch [ then-v w ↦ search (ending, rules) | else-v w ↦ search (ending, rules) ]
-
-pub shape_of-second : goal.shape_of-second
-shape_of-second c = elim c.if-v.branch [ then-v w ↦ search (ending, rules) | else-v w ↦ search (ending, rules) ]
 
 pub returns : goal.returns
-returns c = elim c.if-v.branch [ then-v w ↦ search ending | else-v w ↦ search ending ]
+returns c = carried c.next_verdict-decision.ensures (λ x v. refl) c.carry_out.ensures (search rules) (search rules) (λ x run other run' other' a. search rules)

@@ -1,19 +1,8 @@
-use Rattle.lists.proofs.Decisions.{ending}
+use Rattle.lists.proofs.Decisions.{end-acted, ending}
+use Rattle.lists.proofs.EitherSlice.{sided-acts}
 use borrow.Author.Rules.{rules}
 use Rattle.lists.proofs.cursor.sync.Goals as goal
-use Rattle.lists.proofs.cursor.sync.Goals.{else-v, then-v}
-
-pub overflow_sub-n : goal.overflow_sub-n
-overflow_sub-n c = (c.sync_verdict-v.ensures.asked (search)).0
-
-pub carry_by-requires : goal.carry_by-requires
-carry_by-requires c = (c.sync_verdict-v.ensures.asked (search)).1
-
-pub shape_of-first : goal.shape_of-first
-shape_of-first c = elim c.if-v.branch [ then-v w ↦ search (ending, rules) | else-v w ↦ search (ending, rules) ]
-
-pub shape_of-second : goal.shape_of-second
-shape_of-second c = elim c.if-v.branch [ then-v w ↦ search (ending, rules) | else-v w ↦ search (ending, rules) ]
+use Rattle.lists.proofs.cursor.sync.Goals.{else-acts, then-acts}
 
 pub returns : goal.returns
-returns c = elim c.if-v.branch [ then-v w ↦ search ending | else-v w ↦ search ending ]
+returns c = elim c.if-acts.branch [ then-acts w ↦ end-acted c.synced.ensures c.sync_verdict-decision.ensures c.acts.ensures w.if-acts.true w.first-is w.second-is (search rules) (search rules) (sided-acts w.act_on.ensures (λ run other run' other' a. search rules)) | else-acts w ↦ search ending ]

@@ -11,11 +11,11 @@ overflow_add-size c = search back-calls
 pub paid_shift-requires : goal.paid_shift-requires
 paid_shift-requires c = search (back-calls, rules)
 
-pub returns-in-Fits : goal.returns-in-Fits
-returns-in-Fits c = search back-calls
+pub returns-then-fits : goal.returns-then-fits
+returns-then-fits c = search back-calls
 
-pub returns-in-GivesUp : goal.returns-in-GivesUp
-returns-in-GivesUp c = search back-calls
+pub returns : goal.returns
+returns c = search back-calls
 
-pub returns-in-Over : goal.returns-in-Over
-returns-in-Over c = search back-calls
+pub returns-in_err-fits : goal.returns-in_err-fits
+returns-in_err-fits c = search back-calls

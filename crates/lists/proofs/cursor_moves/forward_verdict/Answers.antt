@@ -4,11 +4,11 @@ use Rattle.lists.proofs.cursor_moves.forward_verdict.Goals as goal
 pub overflow_add-size : goal.overflow_add-size
 overflow_add-size c = search forward-calls
 
-pub returns-in-Fits : goal.returns-in-Fits
-returns-in-Fits c = search forward-calls
+pub returns-then-fits : goal.returns-then-fits
+returns-then-fits c = search forward-calls
 
-pub returns-in-GivesUp : goal.returns-in-GivesUp
-returns-in-GivesUp c = search forward-calls
+pub returns : goal.returns
+returns c = search forward-calls
 
-pub returns-in-Over : goal.returns-in-Over
-returns-in-Over c = search forward-calls
+pub returns-in_err-fits : goal.returns-in_err-fits
+returns-in_err-fits c = search forward-calls

@@ -10,8 +10,8 @@ move_output_verdict-requires c = search move-calls
 pub returns-then-len-i : goal.returns-then-len-i
 returns-then-len-i c = search move-calls
 
-pub returns-then-is_sound : goal.returns-then-is_sound
-returns-then-is_sound c = search move-calls
+pub returns-in_err-sound : goal.returns-in_err-sound
+returns-in_err-sound c = search move-calls
 
 pub returns : goal.returns
 returns c = search move-calls

@@ -14,13 +14,13 @@ pub writes-requires : goal.writes-requires
 writes-requires c = search cursor-calls
 
 pub returns-then-have_output : goal.returns-then-have_output
-returns-then-have_output c = search cursor-calls
+returns-then-have_output c = search cursor-calls fits 6000
 
 pub passes-requires : goal.passes-requires
 passes-requires c = search cursor-calls
 
-pub returns-then-is_sound : goal.returns-then-is_sound
-returns-then-is_sound c = search cursor-calls
+pub returns-in_err-sound : goal.returns-in_err-sound
+returns-in_err-sound c = search cursor-calls
 
 pub returns : goal.returns
 returns c = search cursor-calls

@@ -15,8 +15,8 @@ returns-then-b c = search phase-calls
 pub returns-then-have_output : goal.returns-then-have_output
 returns-then-have_output c = search phase-calls
 
-pub returns-then-is_sound : goal.returns-then-is_sound
-returns-then-is_sound c = search phase-calls
+pub returns-in_err-sound : goal.returns-in_err-sound
+returns-in_err-sound c = search phase-calls
 
 pub returns : goal.returns
 returns c = search phase-calls

@@ -1,11 +1,7 @@
 -- All behind s up to i have a nonzero key.
-use Prim.Native.Nat.{◌-◌}
 use Rattle.records.specs.View.{glyphs}
 use Rattle.lists.proofs.Runs.{Keyed}
 use Rattle.lists.proofs.groups.grapheme_end.Given as goal
 
 abbrev pub invariant-loop-i : goal.invariant-loop-i
 invariant-loop-i l = Keyed l.slot l.mask (glyphs l.ws) l.s l.e l.i
-
-abbrev pub decreases-loop-i : goal.decreases-loop-i
-decreases-loop-i l = l.e - l.i

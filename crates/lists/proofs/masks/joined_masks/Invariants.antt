@@ -5,6 +5,3 @@ use Rattle.lists.proofs.masks.joined_masks.Given as goal
 
 abbrev pub invariant-loop-i : goal.invariant-loop-i
 invariant-loop-i l = Joining (glyphs l.ws) l.s l.e l.x l.i
-
-abbrev pub decreases-loop-i : goal.decreases-loop-i
-decreases-loop-i l = l.i

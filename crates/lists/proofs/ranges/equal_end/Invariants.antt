@@ -1,5 +1,4 @@
 -- All from e up to i are of the cluster.
-use Prim.Native.Nat.{◌-◌}
 use Rattle.records.specs.Ranges.{clusters, is}
 use Rattle.records.specs.View.{glyphs}
 use Rattle.lists.proofs.Runs.{Ahead}
@@ -7,6 +6,3 @@ use Rattle.lists.proofs.ranges.equal_end.Given as goal
 
 abbrev pub invariant-loop-i : goal.invariant-loop-i
 invariant-loop-i l = Ahead (is l.cluster) (clusters (glyphs l.ws)) l.e l.len l.i
-
-abbrev pub decreases-loop-i : goal.decreases-loop-i
-decreases-loop-i l = l.len - l.i

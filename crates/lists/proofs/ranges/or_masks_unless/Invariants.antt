@@ -1,11 +1,7 @@
 -- The glyphs from s up to i are changed.
-use Prim.Native.Nat.{◌-◌}
 use Rattle.records.specs.Glyphs.{flagged_unless}
 use Rattle.lists.proofs.Editing.{Editing}
 use Rattle.lists.proofs.ranges.or_masks_unless.Given as goal
 
 abbrev pub invariant-loop-i : goal.invariant-loop-i
 invariant-loop-i l = Editing (flagged_unless l.cluster l.bits) l.initial.ws l.s l.e l.ws l.i
-
-abbrev pub decreases-loop-i : goal.decreases-loop-i
-decreases-loop-i l = l.e - l.i

@@ -6,6 +6,3 @@ use Rattle.lists.proofs.ranges.other_start.Given as goal
 
 abbrev pub invariant-loop-i : goal.invariant-loop-i
 invariant-loop-i l = Behind (isnt l.cluster) (clusters (glyphs l.ws)) l.s l.e l.i
-
-abbrev pub decreases-loop-i : goal.decreases-loop-i
-decreases-loop-i l = l.i

@@ -1,5 +1,8 @@
-use Rattle.lists.proofs.Decisions.{settled-fields}
+use Rattle.lists.proofs.Decisions.{settling}
 use Rattle.lists.proofs.verdicts.settled.Goals as goal
 
-pub returns : goal.returns
-returns c = settled-fields _ _
+pub returns-in-Ok : goal.returns-in-Ok
+returns-in-Ok c = search settling
+
+pub returns-in-Err : goal.returns-in-Err
+returns-in-Err c = search settling

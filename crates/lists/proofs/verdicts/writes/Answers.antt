@@ -1,11 +1,11 @@
 use Rattle.lists.proofs.Decisions.{settling}
 use Rattle.lists.proofs.verdicts.writes.Goals as goal
 
-pub returns-in-Fits : goal.returns-in-Fits
-returns-in-Fits c = search settling
+pub returns-then-fits : goal.returns-then-fits
+returns-then-fits c = search settling
 
-pub returns-in-GivesUp : goal.returns-in-GivesUp
-returns-in-GivesUp c = search settling
+pub returns : goal.returns
+returns c = search settling
 
-pub returns-in-Over : goal.returns-in-Over
-returns-in-Over c = search settling
+pub returns-in_err-fits : goal.returns-in_err-fits
+returns-in_err-fits c = search settling

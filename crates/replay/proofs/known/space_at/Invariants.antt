@@ -1,10 +1,6 @@
 -- Bytes before i are passed.
-use Rattle.std.proofs.Common.{◌-◌, length}
 use Rattle.replay.proofs.KnownLaws.{Seeking}
 use Rattle.replay.proofs.known.space_at.Given as goal
 
 abbrev pub invariant-loop-i : goal.invariant-loop-i
 invariant-loop-i l = Seeking l.n l.line l.left l.i
-
-abbrev pub decreases-loop-i : goal.decreases-loop-i
-decreases-loop-i l = length l.line - l.i

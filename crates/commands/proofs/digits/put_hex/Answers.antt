@@ -1,5 +1,0 @@
-use Rattle.commands.proofs.Writes.{hex-written}
-use Rattle.commands.proofs.digits.put_hex.Goals as goal
-
-pub returns : goal.returns
-returns c = search hex-written

@@ -1,0 +1,7 @@
+use Rattle.commands.specs.Lines.{ending, sum_line}
+use Rattle.commands.proofs.Writes.{writing}
+use Rattle.commands.proofs.lines.TotalsLine.write.Goals as goal
+
+pub returns-clause-puts : goal.returns-clause-puts
+unfolding sum_line ending
+returns-clause-puts c = search writing depth 9

@@ -1,0 +1,7 @@
+use Rattle.commands.specs.Lines.{ending}
+use Rattle.commands.proofs.Writes.{glyph-put, writing}
+use Rattle.commands.proofs.lines.write_glyph.Goals as goal
+
+pub returns-clause-puts : goal.returns-clause-puts
+unfolding ending
+returns-clause-puts c = search (glyph-put, writing) depth 10

@@ -1,0 +1,5 @@
+use Rattle.commands.proofs.TextLaws.{filling-more}
+use Rattle.commands.proofs.texts.Source.put_text.Goals as goal
+
+pub loop-k-preserved : goal.loop-k-preserved
+loop-k-preserved g c = search filling-more

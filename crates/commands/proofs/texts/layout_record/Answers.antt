@@ -1,6 +1,0 @@
-use Rattle.commands.specs.inner.TextParts.{shown}
-use Rattle.commands.proofs.texts.layout_record.Goals as goal
-
-pub returns : goal.returns
-unfolding shown
-returns c = search

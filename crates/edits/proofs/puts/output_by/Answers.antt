@@ -1,8 +1,0 @@
-use Rattle.lists.proofs.Decisions.{settling}
-use Rattle.edits.proofs.puts.output_by.Goals as goal
-
-pub returns-then-swapped : goal.returns-then-swapped
-returns-then-swapped c = search settling
-
-pub returns-else-swapped : goal.returns-else-swapped
-returns-else-swapped c = search settling

@@ -1,0 +1,6 @@
+use Rattle.std.proofs.Common.{rules}
+use Rattle.replay.proofs.KnownLaws.{checked_printed}
+use Rattle.replay.proofs.Tally.report_line.Goals as goal
+
+pub returns : goal.returns
+returns c = search (checked_printed, rules)

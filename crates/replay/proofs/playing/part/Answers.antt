@@ -1,0 +1,6 @@
+use Rattle.std.proofs.Common.{rules}
+use Rattle.replay.proofs.Lendings.{few_words}
+use Rattle.replay.proofs.playing.part.Goals as goal
+
+pub words_for-end-requires : goal.words_for-end-requires
+words_for-end-requires c = search (few_words, rules)

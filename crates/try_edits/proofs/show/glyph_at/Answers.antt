@@ -1,7 +1,0 @@
-use Rattle.records.proofs.View.{length-glyphs}
-use borrow.Author.Rules.{rules}
-use Rattle.records.proofs.Tests.{tested}
-use Rattle.try_edits.proofs.show.glyph_at.Goals as goal
-
-pub get-requires : goal.get-requires
-get-requires c = search (length-glyphs, tested, rules)
