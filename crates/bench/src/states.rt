@@ -14,11 +14,7 @@ pub fn whole(n: usize, allocated: usize, level: u32, wants: u32) -> Buffer {
         phase: Phase::Plain,
         limits: Limits {
             allocated,
-            max_len: 1073741823,
-            max_ops: 536870911,
-            successful: true,
-            serial: 0,
-            pushes: 0,
+            ..Limits::fresh()
         },
         level,
         wants,

@@ -1,14 +1,31 @@
 -- Calls by their numbers: what calls with operands made of words need, and the last arm of the dispatch.
 use mathlib.Core.{Path.◌≡◌}
-use Prim.Native.Nat.{ℕ, ◌≤◌, ◌<◌}
+use Prim.Native.Nat.{ℕ, zero, suc, ◌+◌, ◌≤◌, ◌<◌}
 use native.Mathlib.Omega.{arith}
 use Rattle.records.proofs.{View.seen-number, View.seen-info, ByteLaws.words-of-part}
+use borrow.Author.Tests.{eq-eqb}
+use Rattle.std.specs.Prelude.{Option, None}
 use Rattle.edits.proofs.Writings.{info-origin}
-use Rattle.commands.proofs.Readings.{NoneOf, past}
+use Rattle.records.specs.{InputPlace}
+use Rattle.commands.specs.Calls.{bound, input_place}
 
 -- 0C by its operands, 0E by the bytes of its numbers
 pub ruleset operand_laws = (seen-number, seen-info, info-origin, words-of-part)
 
--- the last arm: the byte is 26
-pub last_byte : (byte : ℕ) → NoneOf 38 byte → byte < 39 → byte ≡ 38
-last_byte byte none h = let low : 38 ≤ byte = past 38 byte none in omega arith
+-- the highest word is an open bound
+pub input-open : (n : ℕ) → n ≡ 4294967295 → Path (Option InputPlace) None (bound (λ k. input_place k) n)
+unfolding bound
+input-open n h = rw (eq-eqb n 4294967295 h)
+
+-- none of n bytes from a on
+abbrev pub NoneFrom : ℕ → ℕ → ℕ → Type 0
+NoneFrom a zero b = Unit {0}
+NoneFrom a (suc n) b = NoneFrom a n b × (b ≡ a + n → ⊥)
+
+behind : (a n b : ℕ) → a ≤ b → NoneFrom a n b → a + n ≤ b
+behind a zero b low none = omega (arith, low)
+behind a (suc n) b low none = let before : a + n ≤ b = behind a n b low none.0 in let not : b ≡ a + n → ⊥ = none.1 in omega arith
+
+-- the last arm of a group, whose bytes are a and the n after it
+pub last_byte : (a n b : ℕ) → a ≤ b → b < suc (a + n) → NoneFrom a n b → b ≡ a + n
+last_byte a n b low high none = let at-least : a + n ≤ b = behind a n b low none in omega (arith, high)

@@ -1,50 +1,36 @@
 // The calls: an order on state and slices.
-ghost use Rattle.std.specs.Prelude.{◌≡◌, [], ◌∷◌, ◌+◌, ◌*◌, ◌<◌, ◌≤◌, length};
+
+#![tactic(auto, unfolding(crate::specs::Calls::bound, crate::specs::Calls::forms, crate::specs::Calls::operand, crate::specs::Calls::input_place, crate::specs::Calls::done_place, crate::specs::Calls::perform, crate::specs::Reading::operands_of, crate::specs::Reading::count, crate::specs::Reading::made, crate::specs::Reading::ordered, crate::specs::Reading::worded_of))]
+
+ghost use Rattle.std.specs.Prelude.{ℕ, List, ◌≡◌, [], ◌∷◌, ◌+◌, ◌*◌, ◌<◌, ◌≤◌, length};
 ghost use Rattle.records.specs.Bytes.{words_at};
 ghost use Rattle.lists.specs.Contract.{Meets};
 ghost use Rattle.commands.specs.Calls.{bound, input_place, done_place};
-ghost use Rattle.commands.specs.Calls.{perform, c0C-output-info, c0E-replace-glyphs, c15-unsafe-to-break, c16-unsafe-to-concat, c17-safe-to-insert-tatweel, c18-unsafe-to-break-from-outbuffer, c19-unsafe-to-concat-from-outbuffer};
-ghost use Rattle.commands.specs.Reading.{worded_of};
+ghost use Rattle.commands.specs.Calls.{perform, c01-push, c07-next-glyph, c0C-output-info, c0E-replace-glyphs};
+ghost use Rattle.commands.specs.Reading.{ordered, worded_of};
 
 use super::Order;
 use lists::{Buffer, Reply};
 use records::{DonePlace, GlyphInfo, InputPlace};
 
-// A bound in the input. The highest word is an open one.
-#[tactic(auto, unfolding(crate::specs::Calls::bound, crate::specs::Calls::input_place))]
-fn input_bound(w: u32) -> Option<InputPlace>
-    ensures { result ≡ bound (λ k. input_place k) w }
-{
-    if w == 0xFFFFFFFF {
-        return None;
-    }
-    Some(InputPlace(w as usize))
-}
-
-// A bound in *done*.
-#[tactic(auto, unfolding(crate::specs::Calls::bound, crate::specs::Calls::done_place))]
-fn done_bound(w: u32) -> Option<DonePlace>
-    ensures { result ≡ bound (λ k. done_place k) w }
-{
-    if w == 0xFFFFFFFF {
-        return None;
-    }
-    Some(DonePlace(w as usize))
-}
-
 // A word as a place in the input, and in *done*.
-#[tactic(auto, unfolding(crate::specs::Calls::input_place))]
 fn input(w: u32) -> InputPlace
     ensures { result ≡ input_place w }
 {
     InputPlace(w as usize)
 }
 
-#[tactic(auto, unfolding(crate::specs::Calls::done_place))]
 fn done(w: u32) -> DonePlace
     ensures { result ≡ done_place w }
 {
     DonePlace(w as usize)
+}
+
+// A bound: the place of a word, and the highest word is an open one.
+fn bound<P: Copy>(w: u32, place: P) -> Option<P>
+    ensures { result ≡ bound (λ k. place) w }
+{
+    if w == u32::MAX { None } else { Some(place) }
 }
 
 // 0C: a glyph of an order's operands.
@@ -89,86 +75,46 @@ fn replace_glyphs(
     )
 }
 
-// 15 to 19 take bounds.
-#[tactic(auto, unfolding(crate::specs::Calls::perform))]
-fn unsafe_to_break(b: Buffer, first: &mut [u32], second: &mut [u32], s: u32, e: u32) -> Reply
-    ensures { Meets (λ capacity a. perform 0 capacity (c15-unsafe-to-break (bound (λ k. input_place k) s) (bound (λ k. input_place k) e)) [] a) b first.old second.old result first.new second.new }
+// Strings are mostly made of 01 and 07: each has a function of its own, and the others stand in groups. One function of all calls
+// keeps the state in memory for each of them: a command costs a tenth more then.
+#[tactic(auto, using(crate::proofs::CallLaws::operand_laws), unfolding(crate::specs::Calls::perform))]
+#[inline(never)]
+fn push(b: Buffer, first: &mut [u32], second: &mut [u32], number: u32, cluster: u32) -> Reply
+    ensures { Meets (λ capacity a. perform 0 capacity (c01-push cluster) (number ∷ []) a) b first.old second.old result first.new second.new }
 {
-    let start = input_bound(s);
-    let end = input_bound(e);
-    edits::flagging::unsafe_to_break(b, first, second, start, end)
+    edits::filling::push(b, first, second, number, cluster)
 }
 
-#[tactic(auto, unfolding(crate::specs::Calls::perform))]
-fn unsafe_to_concat(b: Buffer, first: &mut [u32], second: &mut [u32], s: u32, e: u32) -> Reply
-    ensures { Meets (λ capacity a. perform 0 capacity (c16-unsafe-to-concat (bound (λ k. input_place k) s) (bound (λ k. input_place k) e)) [] a) b first.old second.old result first.new second.new }
+#[inline(never)]
+fn next_glyph(b: Buffer, first: &mut [u32], second: &mut [u32]) -> Reply
+    ensures { Meets (λ capacity a. perform 0 capacity c07-next-glyph [] a) b first.old second.old result first.new second.new }
 {
-    let start = input_bound(s);
-    let end = input_bound(e);
-    edits::flagging::unsafe_to_concat(b, first, second, start, end)
+    lists::cursor::next_glyph(b, first, second)
 }
 
-#[tactic(auto, unfolding(crate::specs::Calls::perform))]
-fn safe_to_insert_tatweel(b: Buffer, first: &mut [u32], second: &mut [u32], s: u32, e: u32) -> Reply
-    ensures { Meets (λ capacity a. perform 0 capacity (c17-safe-to-insert-tatweel (bound (λ k. input_place k) s) (bound (λ k. input_place k) e)) [] a) b first.old second.old result first.new second.new }
+// 00, and 02 to 06.
+#[inline(never)]
+fn prepare(b: Buffer, first: &mut [u32], second: &mut [u32], o: Order) -> Reply
+    requires { (o.byte < 7) × (o.byte ≡ 1 → ⊥) }
+    ensures { (gs : List ℕ) → Meets (λ capacity a. perform 0 capacity (ordered o gs).call (ordered o gs).glyphs a) b first.old second.old result first.new second.new }
 {
-    let start = input_bound(s);
-    let end = input_bound(e);
-    edits::flagging::safe_to_insert_tatweel(b, first, second, start, end)
-}
-
-#[tactic(auto, unfolding(crate::specs::Calls::perform))]
-fn unsafe_to_break_from_outbuffer(
-    b: Buffer,
-    first: &mut [u32],
-    second: &mut [u32],
-    s: u32,
-    e: u32,
-) -> Reply
-    ensures { Meets (λ capacity a. perform 0 capacity (c18-unsafe-to-break-from-outbuffer (bound (λ k. done_place k) s) (bound (λ k. input_place k) e)) [] a) b first.old second.old result first.new second.new }
-{
-    let start = done_bound(s);
-    let end = input_bound(e);
-    edits::flagging::unsafe_to_break_from_outbuffer(b, first, second, start, end)
-}
-
-#[tactic(auto, unfolding(crate::specs::Calls::perform))]
-fn unsafe_to_concat_from_outbuffer(
-    b: Buffer,
-    first: &mut [u32],
-    second: &mut [u32],
-    s: u32,
-    e: u32,
-) -> Reply
-    ensures { Meets (λ capacity a. perform 0 capacity (c19-unsafe-to-concat-from-outbuffer (bound (λ k. done_place k) s) (bound (λ k. input_place k) e)) [] a) b first.old second.old result first.new second.new }
-{
-    let start = done_bound(s);
-    let end = input_bound(e);
-    edits::flagging::unsafe_to_concat_from_outbuffer(b, first, second, start, end)
-}
-
-// The call of an order that was read from a string. 26 is the last command byte.
-#[tactic(auto, unfolding(crate::specs::Calls::forms, crate::specs::Calls::operand, crate::specs::Calls::input_place, crate::specs::Calls::done_place, crate::specs::Calls::perform, crate::specs::Reading::operands_of, crate::specs::Reading::count, crate::specs::Reading::made, crate::specs::Reading::ordered, crate::specs::Reading::worded_of))]
-pub(crate) fn call(
-    b: Buffer,
-    first: &mut [u32],
-    second: &mut [u32],
-    script: &[u8],
-    o: Order,
-) -> Reply
-    requires { (o.byte < 39) × (o.byte ≡ 14 → o.numbers + 4 * o.b ≤ length script.now) }
-    ensures { Meets (λ capacity a. perform 0 capacity (worded_of script.now o).call (worded_of script.now o).glyphs a) b first.old second.old result first.new second.new }
-{
-    let byte = o.byte;
-    match byte {
+    match o.byte {
         0x00 => lists::cursor::fresh(b, first, second, o.a, o.b),
-        0x01 => edits::filling::push(b, first, second, o.a, o.b),
         0x02 => edits::filling::set_length(b, first, second, o.a as usize),
         0x03 => lists::cursor::clear_output(b, first, second),
         0x04 => lists::cursor::sync(b, first, second),
         0x05 => lists::cursor::clear_positions(b, first, second),
-        0x06 => edits::filling::place(b, first, second, input(o.a), o.b, o.c, o.d, o.e),
-        0x07 => lists::cursor::next_glyph(b, first, second),
+        _ => edits::filling::place(b, first, second, input(o.a), o.b, o.c, o.d, o.e),
+    }
+}
+
+// 08 to 10.
+#[inline(never)]
+fn write(b: Buffer, first: &mut [u32], second: &mut [u32], script: &[u8], o: Order) -> Reply
+    requires { (8 ≤ o.byte) × (o.byte < 17) × (o.byte ≡ 14 → o.numbers + 4 * o.b ≤ length script.now) }
+    ensures { Meets (λ capacity a. perform 0 capacity (worded_of script.now o).call (worded_of script.now o).glyphs a) b first.old second.old result first.new second.new }
+{
+    match o.byte {
         0x08 => lists::cursor::next_glyphs(b, first, second, o.a as usize),
         0x09 => lists::cursor::skip_glyph(b, first, second),
         0x0A => edits::writing::copy_glyph(b, first, second),
@@ -177,16 +123,48 @@ pub(crate) fn call(
         0x0D => edits::replacing::replace_glyph(b, first, second, o.a),
         0x0E => replace_glyphs(b, first, second, script, o),
         0x0F => edits::deleting::delete_glyph(b, first, second),
-        0x10 => lists::cursor::move_to(b, first, second, o.a as usize),
+        _ => lists::cursor::move_to(b, first, second, o.a as usize),
+    }
+}
+
+// 11 to 14.
+#[inline(never)]
+fn merge(b: Buffer, first: &mut [u32], second: &mut [u32], o: Order) -> Reply
+    requires { (17 ≤ o.byte) × (o.byte < 21) }
+    ensures { (gs : List ℕ) → Meets (λ capacity a. perform 0 capacity (ordered o gs).call (ordered o gs).glyphs a) b first.old second.old result first.new second.new }
+{
+    match o.byte {
         0x11 => edits::merges::merge_clusters(b, first, second, input(o.a), input(o.b)),
         0x12 => edits::merges::merge_out_clusters(b, first, second, done(o.a), done(o.b)),
         0x13 => edits::merges::merge_grapheme_clusters(b, first, second, input(o.a), input(o.b)),
-        0x14 => edits::merges::merge_out_grapheme_clusters(b, first, second, done(o.a), done(o.b)),
-        0x15 => unsafe_to_break(b, first, second, o.a, o.b),
-        0x16 => unsafe_to_concat(b, first, second, o.a, o.b),
-        0x17 => safe_to_insert_tatweel(b, first, second, o.a, o.b),
-        0x18 => unsafe_to_break_from_outbuffer(b, first, second, o.a, o.b),
-        0x19 => unsafe_to_concat_from_outbuffer(b, first, second, o.a, o.b),
+        _ => edits::merges::merge_out_grapheme_clusters(b, first, second, done(o.a), done(o.b)),
+    }
+}
+
+// 15 to 19, between bounds.
+#[inline(never)]
+fn flag(b: Buffer, first: &mut [u32], second: &mut [u32], o: Order) -> Reply
+    requires { (21 ≤ o.byte) × (o.byte < 26) }
+    ensures { (gs : List ℕ) → Meets (λ capacity a. perform 0 capacity (ordered o gs).call (ordered o gs).glyphs a) b first.old second.old result first.new second.new }
+{
+    let (start, end) = (bound(o.a, input(o.a)), bound(o.b, input(o.b)));
+    let from = bound(o.a, done(o.a));
+    match o.byte {
+        0x15 => edits::flagging::unsafe_to_break(b, first, second, start, end),
+        0x16 => edits::flagging::unsafe_to_concat(b, first, second, start, end),
+        0x17 => edits::flagging::safe_to_insert_tatweel(b, first, second, start, end),
+        0x18 => edits::flagging::unsafe_to_break_from_outbuffer(b, first, second, from, end),
+        _ => edits::flagging::unsafe_to_concat_from_outbuffer(b, first, second, from, end),
+    }
+}
+
+// 1A to 26, the last command byte.
+#[inline(never)]
+fn arrange(b: Buffer, first: &mut [u32], second: &mut [u32], o: Order) -> Reply
+    requires { (26 ≤ o.byte) × (o.byte < 39) }
+    ensures { (gs : List ℕ) → Meets (λ capacity a. perform 0 capacity (ordered o gs).call (ordered o gs).glyphs a) b first.old second.old result first.new second.new }
+{
+    match o.byte {
         0x1A => edits::relabeling::set_masks(b, first, second, o.a, o.b, o.c, o.d),
         0x1B => edits::reversing::reverse(b, first, second),
         0x1C => edits::reversing::reverse_range(b, first, second, input(o.a), input(o.b)),
@@ -201,4 +179,38 @@ pub(crate) fn call(
         0x25 => lists::cursor::leave(b, first, second),
         _ => lists::cursor::allocate_lig_id(b, first, second),
     }
+}
+
+// The call of an order that was read from a string. By the bytes: they are the format, and an enum between byte and call would say these
+// tables twice.
+pub(crate) fn call(
+    b: Buffer,
+    first: &mut [u32],
+    second: &mut [u32],
+    script: &[u8],
+    o: Order,
+) -> Reply
+    requires { (o.byte < 39) × (o.byte ≡ 14 → o.numbers + 4 * o.b ≤ length script.now) }
+    ensures { Meets (λ capacity a. perform 0 capacity (worded_of script.now o).call (worded_of script.now o).glyphs a) b first.old second.old result first.new second.new }
+{
+    let byte = o.byte;
+    if byte == 0x01 {
+        return push(b, first, second, o.a, o.b);
+    }
+    if byte == 0x07 {
+        return next_glyph(b, first, second);
+    }
+    if byte < 0x07 {
+        return prepare(b, first, second, o);
+    }
+    if byte < 0x11 {
+        return write(b, first, second, script, o);
+    }
+    if byte < 0x15 {
+        return merge(b, first, second, o);
+    }
+    if byte < 0x1A {
+        return flag(b, first, second, o);
+    }
+    arrange(b, first, second, o)
 }

@@ -1,4 +1,4 @@
-// The printed lines, each written into a lent slice at a place where the longest has room.
+// The printed lines, each written into a lent slice at a place where the longest has room. Callers lend slice and place: a `Writer` is made of them.
 ghost use Rattle.std.specs.Prelude.{◌≡◌, cond, List, ℕ, ◌+◌, ◌≤◌, length, leb};
 ghost use Rattle.records.specs.Answers.{said};
 ghost use Rattle.records.specs.View.{seen};

@@ -27,6 +27,7 @@ pub fn play(
     let mut last = Step { reply, next: at };
     let mut written = 0;
     let mut commands = 0;
+    // Each command says where the next one starts.
     'steps: while has_next(last.next, script.len(), written, out.len()) {
         let here = last.next;
         let byte = script[here];

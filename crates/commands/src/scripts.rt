@@ -1,4 +1,4 @@
-// A reader that keeps the bytes it was given, and its place in them.
+// A reader that keeps the bytes it was given, and its place in them. What reads at one place, once, takes bytes and place.
 ghost use Rattle.std.specs.Prelude.{◌≡◌, leb, length};
 ghost use Rattle.commands.specs.Reading.{Reads};
 ghost use Rattle.commands.specs.Reading.{Takes};

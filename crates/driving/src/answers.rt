@@ -11,10 +11,7 @@ use std::fmt;
 pub fn told(a: Answer) -> Result<Option<u32>, u32>
     ensures { result ≡ told (said a) }
 {
-    match a {
-        Ok(value) => Ok(value),
-        Err(why) => Err(u32::from(why)),
-    }
+    a.map_err(|why| u32::from(why))
 }
 
 // An answer as it is printed: `ok`, `ok` and a value, `no` and a number.

@@ -211,9 +211,6 @@ module _ {b : Buffer} {run other : List ℕ} {s e : ℕ} (v : Mergeful b s e run
 
 -- ---- the tests of a call
 module _ (b : Buffer) where
-  pub gone_at : {x : ℕ} (p : Phase) → b.phase ≡ p → x ≡ gone_in p b.idx.0 b.len.0 → x ≡ gone_of b
-  gone_at p h e = rw (gone-in b, h) e
-
   module _ (s e : ℕ) where
     pub outside-order : e < s → ltb e s ≡ (ltb e s || (ltb b.len.0 e || ltb s (gone_of b)))
     outside-order h = rw (lt-ltb e s h)

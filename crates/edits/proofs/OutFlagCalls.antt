@@ -15,7 +15,8 @@ use Rattle.lists.proofs.{Accounts.output-of, Accounts.out_of, Accounts.idx-of, A
 use Rattle.lists.proofs.SoundLaws.{soundness}
 use Rattle.lists.proofs.Refusing.{refusing}
 use Rattle.records.proofs.Tests.{tested}
-use Rattle.edits.specs.{inner.Acts.Acts, inner.BoundNumbers.input_number, inner.BoundNumbers.done_number, Flags.place_number, Flags.search_level, Flags.too_far, Flags.start_of, Flags.end_of, Flags.outbuffer_form, Flags.wants_concat, inner.Marks.flagged_part, inner.Marks.sought_out, inner.Marks.flag_out, inner.Acts.lists_of, inner.Marks.OutFlaggable, inner.Marks.OutFlagged, inner.Marks.FlagsOut}
+use Rattle.lists.specs.inner.States.{lists_of}
+use Rattle.edits.specs.{inner.Acts.Acts, inner.BoundNumbers.input_number, inner.BoundNumbers.done_number, Flags.place_number, Flags.search_level, Flags.too_far, Flags.start_of, Flags.end_of, Flags.outbuffer_form, Flags.wants_concat, inner.Marks.flagged_part, inner.Marks.sought_out, inner.Marks.flag_out, inner.Marks.OutFlaggable, inner.Marks.OutFlagged, inner.Marks.FlagsOut}
 use Rattle.edits.proofs.MergeForms.{OutRange}
 use Rattle.edits.proofs.BoundLaws.{end-most}
 use Rattle.edits.proofs.FlagCalls.{idle-of, end-of}

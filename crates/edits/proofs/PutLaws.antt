@@ -1,5 +1,7 @@
 -- Glyphs put behind the output: what the acts by places leave, and what that is on the account.
 use mathlib.Core.{Path.◌≡◌, Path.refl, Path.sym, Path.ap, Path.◌∙◌, Path.subst, Bool.Bool, Bool.true, Bool.false, Bool.cond, Bool.◌||◌, Bool.false≢true, List.List, List.[], List.◌∷◌, List.◌++◌}
+use Rattle.std.specs.Option.{unwrap_or}
+use Rattle.std.specs.Prelude.{Option}
 use Rattle.std.proofs.Common.{ℕ, ◌+◌, ◌-◌, ◌<◌, ◌≤◌, length, get_or, take, drop, set, arith, drop-drop, ltb-false, le-ltb, lt-ltb}
 use lib.Seq.{slice, length-paste}
 use Rattle.records.specs.{Glyphs.Glyph, Ranges.copies, View.glyphs, View.seen, inner.Stores.zero_glyph}
@@ -10,7 +12,8 @@ use Rattle.lists.proofs.Changed.{changed, output-apart, held-places, held-apart}
 use Rattle.lists.specs.{declared.Buffer.Buffer, declared.Lists.Lists}
 use Rattle.lists.specs.{Account.Account, Account.output_phase, Account.with_gone, inner.Copied.copied, Cursor.dropping, Contract.account_of, inner.Held.Held, inner.Verdicts.Sided}
 use Rattle.lists.proofs.{Copying.copied_none, Copying.copied_more, Copying.take-copied, Copying.drop-copied, Copying.range_same, Outputs.output, Outputs.output-cong, Outputs.output-places, Outputs.output-account}
-use Rattle.edits.specs.{inner.Acts.Acts, inner.Acts.lists_of, inner.MergeActs.Merges, inner.Puts.overtakes, inner.Puts.Puttable, inner.Puts.Brought, inner.Puts.Wrote, inner.Puts.Outputable, inner.Puts.Replaceable, inner.Puts.Replaces, inner.Puts.model_at, inner.Puts.Modelled, inner.Puts.Outputs, Writing.written}
+use Rattle.lists.specs.inner.States.{lists_of}
+use Rattle.edits.specs.{inner.Acts.Acts, inner.MergeActs.Merges, inner.Puts.overtakes, inner.Puts.Puttable, inner.Puts.Brought, inner.Puts.Wrote, inner.Puts.Outputable, inner.Puts.Replaceable, inner.Puts.Replaces, inner.Puts.model_at, inner.Puts.Modelled, inner.Puts.Outputs, Writing.written}
 use Rattle.edits.proofs.WriteForms.{Roomy, put_buffer}
 
 -- ---- where the output lies
@@ -80,22 +83,20 @@ module _ {u : Glyph ℕ} {at : Lists} {run other : List ℕ} where
   pub reads-last : at.len ≤ at.idx → u ≡ get_or (cond at.separate (glyphs other) (glyphs run)) (at.out_len - 1) zero_glyph → Modelled at run other u
   reads-last h e = record { is = e ∙ sym (model-last at run other h) }
 
-  pub outputs-of : {apart own : Bool} {r : Glyph ℕ} {x number : ℕ} {run' other' : List ℕ} → Modelled at run other u → x ≡ cond own u.glyph number → r ≡ record { glyph = x; info = u.info } → Wrote at apart (r ∷ []) 1 run other run' other'
-      → Outputs at apart own number run other run' other'
-  outputs-of {apart} {own} {r} {x} {number} {run'} {other'} eg ex er w =
+  pub outputs-of : {apart : Bool} {number : Option ℕ} {r : Glyph ℕ} {x : ℕ} {run' other' : List ℕ} → Modelled at run other u → x ≡ unwrap_or number u.glyph → r ≡ record { glyph = x; info = u.info } → Wrote at apart (r ∷ []) 1 run other run' other'
+      → Outputs at apart number run other run' other'
+  outputs-of {apart} {number} {r} {x} {run'} {other'} eg ex er w =
       let m : Glyph ℕ = model_at at run other in
-      let en : x ≡ cond own m.glyph number = ex ∙ ap (λ (t : Glyph ℕ). cond own t.glyph number) eg.is in
-      let e : r ≡ record { glyph = cond own m.glyph number; info = m.info } = er ∙ (λ k. record { glyph = en k; info = (eg.is k).info }) in
+      let en : x ≡ unwrap_or number m.glyph = ex ∙ ap (λ (t : Glyph ℕ). unwrap_or number t.glyph) eg.is in
+      let e : r ≡ record { glyph = unwrap_or number m.glyph; info = m.info } = er ∙ (λ k. record { glyph = en k; info = (eg.is k).info }) in
       record { is = rw copies-one (subst (λ (y : Glyph ℕ). Wrote at apart (y ∷ []) 1 run other run' other') e w) }
 
 pub outputable-turned : {at : Lists} {f s : List ℕ} → Outputable at f s → Outputable at s f
 outputable-turned w = record { same = sym w.same; len-in = omega (arith, w.same, w.len-in); fits = omega (arith, w.same, w.fits); some = w.some }
 
-pub own-number : {own : Bool} (g : GlyphInfo) (number : ℕ) → own ≡ true → g.glyph ≡ cond own (seen g).glyph number
-own-number g number h = rw h (sym (seen-number g))
-
-pub other-number : {own : Bool} (g : GlyphInfo) (number : ℕ) → own ≡ false → number ≡ cond own (seen g).glyph number
-other-number g number h = rw h
+-- a number that is given, or the glyph's own
+pub number_or : {x : ℕ} (number : Option ℕ) (g : GlyphInfo) → x ≡ unwrap_or number g.glyph → x ≡ unwrap_or number (seen g).glyph
+number_or {x} number g e = e ∙ ap (λ (n : ℕ). unwrap_or number n) (sym (seen-number g))
 
 -- ---- n elements of a list went to place o of the output, which lies apart (s), moved there (x) or lies in the run
 module _ {A : Type 0} (run other new : List A) (o n : ℕ) (out-run : o + n ≤ length run) (out-other : o + n ≤ length other) (in-new : 0 + n ≤ length new) where
@@ -229,4 +230,4 @@ pub replaces-of : {at : Lists} {apart merges : Bool} {level wants m n : ℕ} {gs
 replaces-of {run₁ = run₁} {other₁ = other₁} {u = u} w lr lo eu q = record { run₁ = run₁; other₁ = other₁; run_long = lr; other-long = lo; merged = w; first = u; first-is = eu; wrote = q }
 
 -- for the proofs of functions
-pub ruleset put_laws = (brought-separate, brought-moved, brought-none, reads_first, reads-last, outputs-of, own-number, other-number, replace-puttable, replaces-of)
+pub ruleset put_laws = (brought-separate, brought-moved, brought-none, reads_first, reads-last, outputs-of, number_or, replace-puttable, replaces-of)

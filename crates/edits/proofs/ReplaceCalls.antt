@@ -3,7 +3,7 @@ use Rattle.lists.specs.declared.Verdict.{Verdict}
 use Rattle.lists.specs.inner.Verdicts.{amended, limiting_verdict}
 use Rattle.lists.proofs.Tries.{Exits}
 use Rattle.lists.specs.inner.Held.{Test}
-use Rattle.std.specs.Prelude.{Ok, None}
+use Rattle.std.specs.Prelude.{Ok, None, Some}
 use Rattle.lists.proofs.Decisions.{turned}
 use Rattle.lists.specs.inner.States.{Decision}
 use Rattle.lists.specs.inner.Verdicts.{Turned}
@@ -12,17 +12,17 @@ use mathlib.Core.{Path.◌≡◌, Path.refl, Path.sym, Path.ap, Path.◌∙◌, 
 use Rattle.std.proofs.Common.{ℕ, ◌+◌, ◌-◌, ◌^◌, ◌<◌, ◌≤◌, max, arith, le-ltb, lt-ltb}
 use lib.{ListN.length}
 use Rattle.records.specs.{Contradiction, WrongPhase, OutOfRange, BadOperand, Limits, Counters.capacity_of, Counters.grown, Glyphs.Info, Ranges.copies, View.words_from}
-use Rattle.lists.specs.{declared.Buffer.Buffer, declared.Reply.Reply}
-use Rattle.lists.specs.{Account.Account, Account.read_level, Account.output_phase, Account.out_length, Account.sized, Account.limiting, Contract.Meets, Cursor.dropping, Contract.account_of, Contract.gone_of, Contract.sound, inner.Held.Tested, inner.Held.Held, inner.Held.room_for, inner.States.reply, inner.States.with_limits_of, inner.Verdicts.Sized, inner.Verdicts.wrote_buffer}
+use Rattle.lists.specs.{declared.Buffer.Buffer}
+use Rattle.lists.specs.{Account.Account, Account.read_level, Account.output_phase, Account.out_length, Account.sized, Account.limiting, Cursor.dropping, Contract.account_of, Contract.gone_of, Contract.sound, inner.Held.Tested, inner.Held.Held, inner.Held.room_for, inner.States.reply, inner.States.with_limits_of, inner.Verdicts.Sized, inner.Verdicts.wrote_buffer}
 use Rattle.lists.proofs.Sides.{MeetsIn, SyncOutput}
 use Rattle.lists.proofs.{Accounts.output-of, SoundLaws.sound-held, Calls.in-call, SoundLaws.tests-sound, Decisions.Lying, Decisions.near-placed, Decisions.decided-unsound, Decisions.decided-refused, Decisions.decided-sized, Inner.sized_of}
 use Rattle.lists.proofs.SoundLaws.{soundness}
 use Rattle.records.proofs.Tests.{tested}
 use Rattle.lists.proofs.Changed.{other-limits}
 use Rattle.records.proofs.Edited.{length-copies}
-use Rattle.edits.specs.{inner.Acts.Acts, inner.Acts.lists_of, inner.Acts.given, inner.Acts.replacing, inner.MergeActs.merge_limits, Merging.merge, Merging.clusters_merge, inner.Puts.overtakes, inner.Puts.costing, inner.Puts.Writes, inner.Puts.Replaces, inner.Puts.OutputDecided, inner.Puts.ReplaceDecided, inner.Replaces.replaced, Writing.written, Writing.model, Writing.writing, Writing.replace_glyphs}
+use Rattle.lists.specs.inner.States.{lists_of}
+use Rattle.edits.specs.{inner.Acts.Acts, inner.Acts.replacing, inner.MergeActs.merge_limits, Merging.merge, Merging.clusters_merge, inner.Puts.overtakes, inner.Puts.costing, inner.Puts.Writes, inner.Puts.Replaces, inner.Puts.OutputDecided, inner.Puts.ReplaceDecided, inner.Replaces.replaced, Writing.written, Writing.model, Writing.writing, Writing.replace_glyphs}
 use Rattle.edits.proofs.WriteForms.{put_buffer, writes_replaced}
-use Rattle.edits.proofs.GivenLaws.{given-none}
 use Rattle.edits.proofs.PutLaws.{stays-behind, wrote-acts}
 use Rattle.edits.proofs.Replacements.{merge-places, inputs-mergeful, merged-roomy, merged-replaced, few, enough, replace-none, replace-outside, replace-short, replace-writes}
 use Rattle.edits.proofs.WriteCalls.{grown_buffer, putting, put_meets, decided-writes, model_of, model_is, synced, room-puttable, room-outputable}
@@ -40,15 +40,15 @@ module _ {b : Buffer} {run other : List ℕ} (v : Held b run other) (o : output_
   one-behind : b.have_separate_output ≡ false → false ≡ false → b.out_len.0 + 1 ≤ b.idx.0 + 1
   one-behind h e = let w : b.out_len.0 ≤ b.idx.0 = v.behind o h in omega arith
 
-module _ {own x : Bool} {number : ℕ} {b : Buffer} {f s : List ℕ} {v : Decision} (h : sound b f s ≡ true) where
-  pub one-spoils : output_phase b.phase ≡ false → Turned WrongPhase v → OutputDecided (λ capacity a. replace_glyphs capacity 1 1 (number ∷ []) a) own number x b f s v
+module _ {x : Bool} {number : ℕ} {b : Buffer} {f s : List ℕ} {v : Decision} (h : sound b f s ≡ true) where
+  pub one-spoils : output_phase b.phase ≡ false → Turned WrongPhase v → OutputDecided (λ capacity a. replace_glyphs capacity 1 1 (number ∷ []) a) (Some number) x b f s v
   one-spoils k q = record { is = decided-refused h (record { law = λ run other l. replace-none _ 1 1 (number ∷ []) _ (output-of b run other ∙ k) }) q }
 
   module _ (o : output_phase b.phase ≡ true) where
-    pub one-past : b.len.0 ≤ b.idx.0 → Turned OutOfRange v → OutputDecided (λ capacity a. replace_glyphs capacity 1 1 (number ∷ []) a) own number x b f s v
+    pub one-past : b.len.0 ≤ b.idx.0 → Turned OutOfRange v → OutputDecided (λ capacity a. replace_glyphs capacity 1 1 (number ∷ []) a) (Some number) x b f s v
     one-past k q = record { is = decided-refused h (record { law = λ run other l. replace-outside _ 1 1 (number ∷ []) _ (output-of b run other ∙ o) (rest-short l.held o k) }) q }
 
-pub one-decided : {number m : ℕ} {b : Buffer} {f s : List ℕ} {v : Decision} → sound b f s ≡ true → output_phase b.phase ≡ true → b.idx.0 < b.len.0 → m ≡ capacity_of (length f) → Sized m b 1 1 true v → OutputDecided (λ capacity a. replace_glyphs capacity 1 1 (number ∷ []) a) false number false b f s v
+pub one-decided : {number m : ℕ} {b : Buffer} {f s : List ℕ} {v : Decision} → sound b f s ≡ true → output_phase b.phase ≡ true → b.idx.0 < b.len.0 → m ≡ capacity_of (length f) → Sized m b 1 1 true v → OutputDecided (λ capacity a. replace_glyphs capacity 1 1 (number ∷ []) a) (Some number) false b f s v
 unfolding wrote_buffer put_buffer copies
 one-decided {number} {m} {b} h o k em q = record {
   is = decided-sized {i = 1} {acts = true} h
@@ -142,10 +142,6 @@ module _ {m n : ℕ} {gs : List ℕ} {b : Buffer} {f s : List ℕ} {v : Decision
           where
             writes : {run other : List ℕ} → Lying b f run other → replace_glyphs (capacity_of (length run)) m n gs (account_of b run other) ≡ writes_replaced m n gs (capacity_of (length run)) (account_of b run other)
             writes {run} {other} l = replace-writes _ m n gs _ (output-of b run other ∙ o) (enough l.held m o k j) (le-ltb (length gs) n (omega arith))
-
--- numbers that are given as such
-pub meets-numbers : (m n : ℕ) (gs : List ℕ) {b : Buffer} {f s : List ℕ} {r : Reply} {f' s' : List ℕ} → Meets (λ capacity a. replace_glyphs capacity m n (given gs []) a) b f s r f' s' → Meets (λ capacity a. replace_glyphs capacity m n gs a) b f s r f' s'
-meets-numbers m n gs w = rw given-none at w
 
 -- the output and the numbers asked for stay small
 pub given-small : {b : Buffer} {f s : List ℕ} {t : Test} {y : Unit {0}} {n x : ℕ} → Tested b f s t → t ≡ Ok y → x ≤ 2 ^ 62 → n ≤ x → b.out_len.0 + n < 2 ^ 64

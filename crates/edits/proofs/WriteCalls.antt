@@ -8,7 +8,7 @@ use Rattle.lists.proofs.Decisions.{turned}
 use Rattle.lists.specs.inner.Held.{given_up}
 use Rattle.lists.specs.inner.States.{Decision}
 use Rattle.lists.specs.inner.Verdicts.{acts_of, apart_of, Turned}
-use Rattle.std.specs.Prelude.{Ok, Err, None}
+use Rattle.std.specs.Prelude.{Ok, Err, None, Some, Option}
 use Rattle.lists.specs.inner.Held.{fitting, Room}
 use mathlib.Core.{Path.◌≡◌, Path.refl, Path.sym, Path.ap, Path.◌∙◌, Path.subst, Bool.Bool, Bool.true, Bool.false, Bool.cond, Bool.not, Bool.◌&&◌, Bool.false≢true, List.List, List.[], List.◌∷◌}
 use Rattle.std.proofs.Common.{ℕ, ◌+◌, ◌-◌, ◌^◌, ◌<◌, ◌≤◌, arith, ltb-false, ltb-true}
@@ -24,7 +24,8 @@ use Rattle.lists.proofs.SoundLaws.{soundness}
 use Rattle.records.proofs.Tests.{tested}
 use Rattle.records.proofs.Edited.{copies-one}
 use Rattle.lists.proofs.Changed.{other-limits, changed, settled_at}
-use Rattle.edits.specs.{inner.Acts.Acts, inner.Acts.lists_of, inner.Puts.overtakes, inner.Puts.lying, inner.Puts.moving, inner.Puts.costing, inner.Puts.size_alone, inner.Puts.Writes, inner.Puts.Puttable, inner.Puts.Wrote, inner.Puts.model_at, inner.Puts.Outputable, inner.Puts.Outputs, inner.Puts.OutputDecided, inner.Puts.InfoDecided, Writing.written, Writing.model, Writing.writing, Writing.copy_glyph, Writing.output_glyph}
+use Rattle.lists.specs.inner.States.{lists_of}
+use Rattle.edits.specs.{inner.Acts.Acts, inner.Puts.overtakes, inner.Puts.lying, inner.Puts.moving, inner.Puts.costing, inner.Puts.size_alone, inner.Puts.Writes, inner.Puts.Puttable, inner.Puts.Wrote, inner.Puts.model_at, inner.Puts.Outputable, inner.Puts.Outputs, inner.Puts.OutputDecided, inner.Puts.InfoDecided, Writing.written, Writing.model, Writing.writing, Writing.copy_glyph, Writing.output_glyph}
 use Rattle.edits.proofs.WriteForms.{writes_one, put_buffer}
 use Rattle.edits.proofs.PutLaws.{stays-behind, wrote-acts, model-first, model-last}
 use Rattle.edits.proofs.Writings.{writing-room, writing-done, size-done, grown-roomy, out-size, dropping-none, rest-first, rest-none, rest-short, rest-long, done-last, all-some, all_none, model-rest, model-done, copy-none, copy-outside, copy_writes, glyph-none, glyph-writes, glyph-sizes, info-none, info-writes}
@@ -184,31 +185,31 @@ module _ {b : Buffer} {run other : List ℕ} (v : Held b run other) (o : output_
   rest-one h = rw copies-one (ap (take 1) (rest-first v o h) ∙ ap {B = List (Glyph ℕ)} (λ x. x ∷ []) (sym (model-first (lists_of b) run other h)))
 
 -- ---- 0A and 0B, by their tests
-module _ {call : ℕ → Account ℕ → Result ℕ} {own x : Bool} {number : ℕ} {b : Buffer} {f s : List ℕ} {v : Decision} where
-  pub output-unsound : sound b f s ≡ false → Turned Contradiction v → OutputDecided call own number x b f s v
+module _ {call : ℕ → Account ℕ → Result ℕ} {x : Bool} {number : Option ℕ} {b : Buffer} {f s : List ℕ} {v : Decision} where
+  pub output-unsound : sound b f s ≡ false → Turned Contradiction v → OutputDecided call number x b f s v
   output-unsound h q = record { is = decided-unsound h q }
 
-module _ {own x : Bool} {number : ℕ} {b : Buffer} {f s : List ℕ} {v : Decision} (h : sound b f s ≡ true) where
-  pub copy-spoils : output_phase b.phase ≡ false → Turned WrongPhase v → OutputDecided (λ capacity a. copy_glyph capacity a) own number x b f s v
+module _ {x : Bool} {b : Buffer} {f s : List ℕ} {v : Decision} (h : sound b f s ≡ true) where
+  pub copy-spoils : output_phase b.phase ≡ false → Turned WrongPhase v → OutputDecided (λ capacity a. copy_glyph capacity a) None x b f s v
   copy-spoils k q = record { is = decided-refused h (record { law = λ run other l. copy-none _ _ (output-of b run other ∙ k) }) q }
 
-  pub output-spoils : output_phase b.phase ≡ false → Turned WrongPhase v → OutputDecided (λ capacity a. output_glyph capacity number a) own number x b f s v
-  output-spoils k q = record { is = decided-refused h (record { law = λ run other l. glyph-none _ _ number (output-of b run other ∙ k) }) q }
+  pub output-spoils : {number : ℕ} → output_phase b.phase ≡ false → Turned WrongPhase v → OutputDecided (λ capacity a. output_glyph capacity number a) (Some number) x b f s v
+  output-spoils {number} k q = record { is = decided-refused h (record { law = λ run other l. glyph-none _ _ number (output-of b run other ∙ k) }) q }
 
-  pub copy-past : output_phase b.phase ≡ true → b.len.0 ≤ b.idx.0 → Turned OutOfRange v → OutputDecided (λ capacity a. copy_glyph capacity a) own number x b f s v
+  pub copy-past : output_phase b.phase ≡ true → b.len.0 ≤ b.idx.0 → Turned OutOfRange v → OutputDecided (λ capacity a. copy_glyph capacity a) None x b f s v
   copy-past o k q = record { is = decided-refused h (record { law = λ run other l. copy-outside _ _ (output-of b run other ∙ o) (rest-short l.held o k) }) q }
 
 module _ {b : Buffer} {f s : List ℕ} {v : Decision} {m : ℕ} (h : sound b f s ≡ true) (o : output_phase b.phase ≡ true) (em : m ≡ capacity_of (length f)) where
-  pub copy-decided : {number : ℕ} → b.idx.0 < b.len.0 → Writes m b 0 1 true v → OutputDecided (λ capacity a. copy_glyph capacity a) true number (apart_of v) b f s v
-  copy-decided {number} k q = record {
-    is = decided-one _ b f s v (λ run other. (model_of b run other).info) (λ run other. (model_of b run other).glyph) _ (λ x. Outputs (lists_of b) x true number) h o
+  pub copy-decided : b.idx.0 < b.len.0 → Writes m b 0 1 true v → OutputDecided (λ capacity a. copy_glyph capacity a) None (apart_of v) b f s v
+  copy-decided k q = record {
+    is = decided-one _ b f s v (λ run other. (model_of b run other).info) (λ run other. (model_of b run other).glyph) _ (λ x. Outputs (lists_of b) x None) h o
         (λ run other l. copy_writes _ _ (output-of b run other ∙ o) (rest-long l.held o k) _ _ (rest-one l.held o k))
         (λ x run other run' other' act. act.is) (room-outputable h (omega arith)) em q;
   }
 
-  pub output-decided : {t : Bool} {number : ℕ} → t ≡ true → t ≡ ltb b.idx.0 (b.len.0 + b.out_len.0) → Writes m b 0 1 t v → OutputDecided (λ capacity a. output_glyph capacity number a) false number (apart_of v) b f s v
+  pub output-decided : {t : Bool} {number : ℕ} → t ≡ true → t ≡ ltb b.idx.0 (b.len.0 + b.out_len.0) → Writes m b 0 1 t v → OutputDecided (λ capacity a. output_glyph capacity number a) (Some number) (apart_of v) b f s v
   output-decided {t} {number} et es q = record {
-    is = decided-one _ b f s v (λ run other. (model_of b run other).info) (λ run other. number) _ (λ x. Outputs (lists_of b) x false number) h o
+    is = decided-one _ b f s v (λ run other. (model_of b run other).info) (λ run other. number) _ (λ x. Outputs (lists_of b) x (Some number)) h o
         (λ run other l. glyph-writes _ _ (output-of b run other ∙ o) number _ (all-some l.held o (omega (arith, some))) (model_is l.held o some))
         (λ x run other run' other' act. act.is) (room-outputable h some) em (rw et at q);
   }
@@ -217,7 +218,7 @@ module _ {b : Buffer} {f s : List ℕ} {v : Decision} {m : ℕ} (h : sound b f s
       some = ltb-true b.idx.0 (b.len.0 + b.out_len.0) (sym es ∙ et)
 
   -- with both lists empty only the size is made
-  pub output-sizes : {t : Bool} {w : Decision} {number : ℕ} → t ≡ false → t ≡ ltb b.idx.0 (b.len.0 + b.out_len.0) → Writes m b 0 1 t w → v ≡ amended size_alone w → OutputDecided (λ capacity a. output_glyph capacity number a) false number (apart_of v) b f s v
+  pub output-sizes : {t : Bool} {w : Decision} {number : ℕ} → t ≡ false → t ≡ ltb b.idx.0 (b.len.0 + b.out_len.0) → Writes m b 0 1 t w → v ≡ amended size_alone w → OutputDecided (λ capacity a. output_glyph capacity number a) (Some number) (apart_of v) b f s v
   unfolding wrote_buffer failed_buffer
   output-sizes {t} {w} {number} et es q ev = record { is = by-room (room_for (capacity_of (length f)) (b.out_len.0 + 1) b.limits) refl (ev ∙ ap (amended size_alone) (rw (em, et) at q.is)) }
     where
@@ -236,7 +237,7 @@ module _ {b : Buffer} {f s : List ℕ} {v : Decision} {m : ℕ} (h : sound b f s
       needs : Needs (λ capacity a. output_glyph capacity number a) b f 1
       needs = record { then = _; law = λ run other l. sizes l ∙ writing-room (synced o l) 1 (λ a. sized (out_length a + 1) a) }
 
-      by-room : (room : Room) → room_for (capacity_of (length f)) (b.out_len.0 + 1) b.limits ≡ room → v ≡ amended size_alone (amended (moving (overtakes b 0 1)) (by_size room b 0 1 false)) → Decided (λ capacity a. output_glyph capacity number a) b f s (settled b v) (acts_of v) (Outputable (lists_of b) f s) (Outputs (lists_of b) (apart_of v) false number)
+      by-room : (room : Room) → room_for (capacity_of (length f)) (b.out_len.0 + 1) b.limits ≡ room → v ≡ amended size_alone (amended (moving (overtakes b 0 1)) (by_size room b 0 1 false)) → Decided (λ capacity a. output_glyph capacity number a) b f s (settled b v) (acts_of v) (Outputable (lists_of b) f s) (Outputs (lists_of b) (apart_of v) (Some number))
       by-room (Ok true) k e =
           let still : b.idx.0 + 0 ≡ b.idx.0 = omega arith in
           let l : Limits = grown (b.out_len.0 + 1) b.limits in

@@ -10,7 +10,7 @@ ghost use Rattle.edits.specs.Deleting.{delete_glyph};
 ghost use Rattle.edits.specs.inner.Charges.{DecidedBy};
 ghost use Rattle.edits.specs.inner.Deletes.{DeleteRoom, NextFound, LastFound, Surviving, Inherits, Deletes, merged_with};
 
-use super::{Way, merge_acts, merges, writing};
+use super::{Way, merge_acts, merges, ways, writing};
 use lists::swapping::Outcome;
 use lists::{Buffer, Decision, Lists, Reply, Verdict, state, swapping, verdicts};
 use records::Refusal;
@@ -125,17 +125,8 @@ impl Outcome for Deleted {
 pub fn delete_glyph(b: Buffer, first: &mut [u32], second: &mut [u32]) -> Reply
     ensures { Meets (λ capacity a. delete_glyph a) b first.old second.old result first.new second.new }
 {
-    let lists = Lists {
-        idx: b.idx.0,
-        len: b.len.0,
-        out_len: b.out_len.0,
-        separate: b.have_separate_output,
-    };
-    let way = Way {
-        merges: merges::clusters_merge(b.level),
-        level: b.level,
-        wants: b.wants,
-    };
+    let lists = state::lists_of(b);
+    let way = ways::way_of(b, merges::clusters_merge(b.level));
     let decision = delete_verdict(b, first, second);
     swapping::carry_out(
         b,

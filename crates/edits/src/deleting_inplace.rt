@@ -12,12 +12,12 @@ ghost use Rattle.edits.specs.Deleting.{delete_glyphs_inplace};
 ghost use Rattle.edits.specs.inner.Deletes.{kept_with, MoveRoom, MovesGlyph, Sifts};
 ghost use Rattle.edits.specs.inner.Wholes.{RunRoom};
 
-use super::{Kept, Way, deleting, merge_acts, merges, whole};
+use super::{Kept, Way, deleting, merge_acts, merges, ways, whole};
 use lists::swapping::Outcome;
 use lists::{Buffer, Lists, Reply, Verdict, state, swapping};
 use records::{Key, Limits};
 
-// A position goes to another place, where there are positions.
+// A position goes to another place, where there are positions: the state says it, so a closure would be chosen by the same `if`.
 fn move_position(ws: &mut [u32], positions: bool, from: usize, to: usize)
     requires { (from < length (positions_in ws.old)) × (to < length (positions_in ws.old)) }
     ensures { positions_in ws.new ≡ (if positions then slice_set (positions_in ws.old) to (slice_index_or (positions_in ws.old) from zero_position) else positions_in ws.old) }
@@ -59,11 +59,11 @@ fn sift(
     let mut left = limits;
     let mut out_len = 0;
     for idx in 0..len {
-        if records::glyphs::key_at(run, idx, key.slot, key.mask) == value {
+        if records::glyphs::key_at(run, idx, key) == value {
             let lists = Lists {
-                idx: idx,
-                len: len,
-                out_len: out_len,
+                idx,
+                len,
+                out_len,
                 separate: false,
             };
             let merged = deleting::keep_cluster(run, other, lists, way);
@@ -101,15 +101,8 @@ pub fn delete_glyphs_inplace(
 {
     let phase = b.phase;
     let positions = state::have_positions(phase);
-    let way = Way {
-        merges: merges::clusters_merge(b.level),
-        level: b.level,
-        wants: b.wants,
-    };
-    let key = Key {
-        slot: slot,
-        mask: mask,
-    };
+    let way = ways::way_of(b, merges::clusters_merge(b.level));
+    let key = Key { slot, mask };
     let decision = whole::keyed_verdict(b, first, second, slot);
     swapping::carry_out(
         b,

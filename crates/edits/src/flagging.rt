@@ -1,11 +1,11 @@
-// Flags: calls 15 to 19. Each decides, acts and settles.
+// Flags: calls 15 to 19. Each decides, acts and settles. `concat` says which form it is: the definitions of the account take these flags.
 ghost use Rattle.std.specs.Prelude.{◌≡◌, true, false, not, ◌||◌, ltb, if◌then◌else◌, nat_lt};
 ghost use Rattle.lists.specs.Contract.{gone_of};
 ghost use Rattle.lists.specs.Contract.{Meets};
 ghost use Rattle.edits.specs.Flags.{wants_concat, wants_tatweel, plain_form, outbuffer_form};
 ghost use Rattle.edits.specs.inner.Marks.{FlagsInput, FlagsOut, PlainMeets, OutMeets};
 
-use super::{bounds, flags, lists_at, marking, merges};
+use super::{bounds, flags, marking};
 use lists::{Buffer, Decision, Reply, state, swapping, verdicts};
 use records::{DonePlace, InputPlace, Refusal};
 
@@ -32,7 +32,7 @@ fn idles(concat: bool, wants: u32, far: bool) -> bool
 fn outside_flags(b: Buffer, s: usize, e: usize) -> bool
     ensures { result ≡ (nat_lt e s || nat_lt s (gone_of b)) }
 {
-    e < s || s < merges::gone(b)
+    e < s || s < state::gone(b)
 }
 
 fn outside_out(b: Buffer, s: usize, e: usize) -> bool
@@ -43,6 +43,7 @@ fn outside_out(b: Buffer, s: usize, e: usize) -> bool
 
 // 15 to 17
 #[inline(always)]
+#[tactic(auto, using(crate::proofs::FlagCalls::flag_calls))]
 fn plain_verdict(
     b: Buffer,
     first: &[u32],
@@ -71,6 +72,7 @@ fn plain_verdict(
 
 // 18 and 19
 #[inline(always)]
+#[tactic(auto, using(crate::proofs::OutFlagCalls::out_flag_calls))]
 fn out_verdict(
     b: Buffer,
     first: &[u32],
@@ -140,7 +142,7 @@ fn flag_outbuffer(
     let s = bounds::start(start);
     let e = bounds::end(end, b.len.0);
     let level = flags::search_level(b.level, b.wants);
-    let at = lists_at::lists_of(b);
+    let at = state::lists_of(b);
     swapping::carry_out(
         b,
         decision,

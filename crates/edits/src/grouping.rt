@@ -6,7 +6,7 @@ ghost use Rattle.edits.specs.Groups.{form_clusters};
 ghost use Rattle.edits.specs.inner.Charges.{MergesEach};
 ghost use Rattle.edits.specs.inner.Wholes.{RunRoom};
 
-use super::{Way, merge_acts, merges, whole};
+use super::{Way, merge_acts, merges, ways, whole};
 use lists::{Buffer, Reply, swapping};
 use records::{Key, Limits};
 
@@ -26,7 +26,7 @@ pub(crate) fn merge_each(
     let mut s = 0;
     // No `for`: each step is as long as its grapheme.
     while s < len {
-        let e = lists::groups::grapheme_end(run, s, len, key.slot, key.mask);
+        let e = lists::groups::grapheme_end(run, s, len, key);
         merge_acts::merge_run(run, other, way, len, s, e);
         left = merge_acts::merge_limits(left, way.merges, e - s);
         s = e;
@@ -44,15 +44,8 @@ pub fn form_clusters(
 ) -> Reply
     ensures { Meets (λ capacity a. form_clusters slot mask a) b first.old second.old result first.new second.new }
 {
-    let way = Way {
-        merges: merges::graphemes_merge(b.level),
-        level: b.level,
-        wants: b.wants,
-    };
-    let key = Key {
-        slot: slot,
-        mask: mask,
-    };
+    let way = ways::way_of(b, merges::graphemes_merge(b.level));
+    let key = Key { slot, mask };
     let decision = whole::keyed_verdict(b, first, second, slot);
     swapping::carry_out(
         b,

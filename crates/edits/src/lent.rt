@@ -5,15 +5,14 @@ ghost use Rattle.edits.specs.Merging.{merge_input, clusters_merge};
 
 use super::{merges, writing};
 use lists::Buffer;
+use lists::verdicts::stored;
 use records::{Answer, InputPlace};
 
 // 0B
 pub fn output_glyph(b: &mut Buffer, first: &mut [u32], second: &mut [u32], number: u32) -> Answer
     ensures { Meets (λ capacity a. output_glyph capacity number a) b.old first.old second.old (record { buffer = b.new; answer = result }) first.new second.new }
 {
-    let r = writing::output_glyph(*b, first, second, number);
-    *b = r.buffer;
-    r.answer
+    stored(writing::output_glyph(*b, first, second, number), b)
 }
 
 // 11
@@ -26,7 +25,5 @@ pub fn merge_clusters(
 ) -> Answer
     ensures { Meets (λ capacity a. merge_input (λ level. clusters_merge level) start end a) b.old first.old second.old (record { buffer = b.new; answer = result }) first.new second.new }
 {
-    let r = merges::merge_clusters(*b, first, second, start, end);
-    *b = r.buffer;
-    r.answer
+    stored(merges::merge_clusters(*b, first, second, start, end), b)
 }

@@ -13,7 +13,6 @@ pub mod flagging;
 mod flags;
 pub mod grouping;
 pub mod lent;
-mod lists_at;
 mod marking;
 mod merge_acts;
 mod merge_verdicts;
@@ -27,11 +26,12 @@ mod replace_acts;
 pub mod replacing;
 pub mod reversing;
 pub mod sorting;
+mod ways;
 mod whole;
 pub mod writing;
 
 // What a merge of a range changes: m, the cluster of the range's first glyph, the range as it grew, and whether the
-// equal tail of the output goes with it.
+// equal tail of the output goes with it. No option: the leader holds whatever `tail` says.
 #[derive(Clone, Copy)]
 pub struct Merge {
     pub lowest: u32,
@@ -42,7 +42,7 @@ pub struct Merge {
 }
 
 // What a merge in the output changes: m, the cluster of the range's last glyph, the range as it grew, and whether the
-// equal head of the input goes with it.
+// equal head of the input goes with it. Not one type with `Merge`: the names keep the places of input and output apart.
 #[derive(Clone, Copy)]
 pub struct OutMerge {
     pub lowest: u32,
@@ -52,7 +52,8 @@ pub struct OutMerge {
     pub head: bool,
 }
 
-// Whether a range merges, and else by which level and wants its flags are sought.
+// Whether a range merges, and else by which level and wants its flags are sought. No enum: the level and the wants hold
+// whatever `merges` says. `merges` is no invariant of the level: merges of clusters and of graphemes go by other levels.
 #[derive(Clone, Copy)]
 pub struct Way {
     pub merges: bool,

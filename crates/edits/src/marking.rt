@@ -1,4 +1,4 @@
-// The flag forms on slices. A range ends before its end, and may be empty.
+// The flag forms on slices. A range ends before its end, and may be empty. `interiorly` is a flag, as the definitions of the account take it.
 ghost use Rattle.std.specs.Prelude.{◌≡◌, ◌≤◌, true, length, if◌then◌else◌};
 ghost use Rattle.std.proofs.Math.Seq.{slice};
 ghost use Rattle.records.specs.Ranges.{clusters};
@@ -48,7 +48,7 @@ fn flag_part(
     }
 }
 
-// The slice that has the output.
+// The slice that has the output: the state says it as the call runs, so no type does.
 fn output<'a>(run: &'a [u32], other: &'a [u32], separate: bool) -> &'a [u32]
     ensures { result.now ≡ (if separate then other.now else run.now) }
 {

@@ -1,4 +1,5 @@
 // Merges by places: the glyphs of a merge, and what it costs.
+// The branches are by what the state says as the call runs: closures would be chosen by the same `if`.
 #![tactic(auto, using(crate::proofs::MergeDecisions::merge_acting, crate::proofs::OutCalls::out_merge_acting))]
 
 ghost use Rattle.std.specs.Prelude.{◌≡◌};
@@ -70,7 +71,7 @@ pub(crate) fn merge_run(
     }
     let lists = Lists {
         idx: 0,
-        len: len,
+        len,
         out_len: 0,
         separate: false,
     };

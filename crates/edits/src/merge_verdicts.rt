@@ -21,6 +21,7 @@ fn goes_ahead(b: Buffer, merges: bool, n: usize) -> Decision
 
 // 11 and 13, which merge at some levels.
 #[inline(always)]
+#[tactic(auto, using(crate::proofs::MergeDecisions::merge_calls))]
 pub(crate) fn merge_verdict(
     b: Buffer,
     first: &[u32],
@@ -44,6 +45,7 @@ pub(crate) fn merge_verdict(
 
 // 12 and 14
 #[inline(always)]
+#[tactic(auto, using(crate::proofs::OutCalls::out_merge_calls))]
 pub(crate) fn merge_out_verdict(
     b: Buffer,
     first: &[u32],

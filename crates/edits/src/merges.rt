@@ -8,9 +8,9 @@ ghost use Rattle.lists.specs.Contract.{Meets};
 ghost use Rattle.edits.specs.Merging.{merge_input, merge_done, clusters_merge, graphemes_merge};
 ghost use Rattle.edits.specs.inner.MergeActs.{lies_apart, MeetsInput, MeetsDone};
 
-use super::{Way, merge_acts, merge_verdicts};
+use super::{merge_acts, merge_verdicts, ways};
 use lists::{Buffer, Lists, Reply, state, swapping};
-use records::{DonePlace, InputPlace, Phase};
+use records::{DonePlace, InputPlace};
 
 // Whether there is an output and the other slice holds it.
 pub(crate) fn lies_apart(b: Buffer) -> bool
@@ -33,24 +33,11 @@ pub(crate) fn graphemes_merge(level: u32) -> bool
     known == 0 || known == 3
 }
 
-// How many glyphs of the input no list shows.
-pub(crate) fn gone(b: Buffer) -> usize
-    ensures { result ≡ gone_of b }
-{
-    let phase = b.phase;
-    match phase {
-        Phase::Plain => 0,
-        Phase::Output => b.idx.0,
-        Phase::Positions => 0,
-        Phase::Spoiled => b.len.0,
-    }
-}
-
 // Whether s to e is no range of the input that a list shows.
 pub(crate) fn outside_input(b: Buffer, s: usize, e: usize) -> bool
     ensures { result ≡ (nat_lt e s || (nat_lt b.len.0 e || nat_lt s (gone_of b))) }
 {
-    e < s || (b.len.0 < e || s < gone(b))
+    e < s || (b.len.0 < e || s < state::gone(b))
 }
 
 // 11 and 13, which merge at some levels.
@@ -66,16 +53,10 @@ fn merge_input(
     ensures { MeetsInput merges start end b first.old second.old result first.new second.new }
 {
     let lists = Lists {
-        idx: b.idx.0,
-        len: b.len.0,
-        out_len: b.out_len.0,
         separate: lies_apart(b),
+        ..state::lists_of(b)
     };
-    let way = Way {
-        merges: merges,
-        level: b.level,
-        wants: b.wants,
-    };
+    let way = ways::way_of(b, merges);
     let decision = merge_verdicts::merge_verdict(b, first, second, merges, start, end);
     swapping::carry_out(
         b,
@@ -98,12 +79,7 @@ fn merge_done(
 ) -> Reply
     ensures { MeetsDone merges start end b first.old second.old result first.new second.new }
 {
-    let lists = Lists {
-        idx: b.idx.0,
-        len: b.len.0,
-        out_len: b.out_len.0,
-        separate: b.have_separate_output,
-    };
+    let lists = state::lists_of(b);
     let decision = merge_verdicts::merge_out_verdict(b, first, second, merges, start, end);
     swapping::carry_out(
         b,

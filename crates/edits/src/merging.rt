@@ -47,15 +47,15 @@ fn plan_merge(run: &[u32], idx: usize, len: usize, s: usize, e: usize) -> Merge
     let from = merge_start(run, idx, len, s, e, lowest);
     let to = merge_end(run, len, s, e, lowest);
     Merge {
-        lowest: lowest,
-        leader: leader,
-        from: from,
-        to: to,
+        lowest,
+        leader,
+        from,
+        to,
         tail: from == idx && leader != lowest,
     }
 }
 
-// Where the glyphs of the output begin that go with a merge.
+// Where the glyphs of the output begin that go with a merge. Whether they do, the plan found: a closure would be chosen by the same `if`.
 fn tail_start(ws: &[u32], out_len: usize, tail: bool, leader: u32) -> usize
     requires { out_len ≤ length (glyphs ws.now) }
     ensures { result ≡ tail_start tail leader (cut out_len (glyphs ws.now)) out_len }
@@ -79,6 +79,7 @@ pub(crate) fn merge_apart(run: &mut [u32], out: &mut [u32], lists: Lists, s: usi
 }
 
 // A merge where the output is held in the run itself, or where there is none.
+// Not one function with the other: a slice is lent once, so that no call can name one slice as both.
 pub(crate) fn merge_within(run: &mut [u32], lists: Lists, s: usize, e: usize)
     requires { Mergeable (glyphs run.old) (glyphs run.old) lists.len lists.out_len s e }
     ensures { WrittenWithin lists.idx lists.len lists.out_len s e (glyphs run.old) (glyphs run.new) }
@@ -101,15 +102,15 @@ pub(crate) fn plan_out(out: &[u32], out_len: usize, s: usize, e: usize) -> OutMe
     let from = lists::ranges::equal_start(out, s, 0, first);
     let to = lists::ranges::equal_end(out, e, out_len, closer);
     OutMerge {
-        lowest: lowest,
-        closer: closer,
-        from: from,
-        to: to,
+        lowest,
+        closer,
+        from,
+        to,
         head: to == out_len,
     }
 }
 
-// Where the glyphs of the input end that go with a merge in the output.
+// Where the glyphs of the input end that go with a merge in the output, likewise.
 fn head_end(run: &[u32], idx: usize, len: usize, head: bool, closer: u32) -> usize
     requires { (idx ≤ len) × (len ≤ length (glyphs run.now)) }
     ensures { result ≡ head_end head closer idx (slice idx len (clusters (glyphs run.now))) }
@@ -132,6 +133,7 @@ pub(crate) fn merge_out_apart(run: &mut [u32], out: &mut [u32], idx: usize, len:
 }
 
 // The same where it is held in the run itself.
+// Not one function with the other: a slice is lent once, so that no call can name one slice as both.
 pub(crate) fn merge_out_within(run: &mut [u32], idx: usize, len: usize, p: OutMerge)
     requires { OutWritable p idx len (glyphs run.old) (glyphs run.old) }
     ensures { WrittenOutWithin p idx len (glyphs run.old) (glyphs run.new) }

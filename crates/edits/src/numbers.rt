@@ -1,24 +1,47 @@
-// Glyph numbers that are given: a slice of numbers, then the words of a string of bytes.
-ghost use Rattle.std.specs.Prelude.{◌≡◌, ◌^◌, ◌<◌, ◌≤◌, length, slice_index};
-ghost use Rattle.edits.specs.inner.Acts.{given};
+// Glyph numbers that are given: as numbers, or as the words of a string of bytes.
+#![tactic(auto, using(crate::proofs::GivenLaws::giving))]
 
-// How many there are.
-#[tactic(auto, using(crate::proofs::GivenLaws::giving))]
-pub fn count(numbers: &[u32], bytes: &[u8]) -> usize
-    ensures value { result ≡ length (given numbers.now bytes.now) }
-    ensures upper_bound { result ≤ 2 ^ 62 }
-{
-    numbers.len() + bytes.len() / 4
+ghost use Rattle.std.specs.Prelude.{◌≡◌, ℕ, List, ◌^◌, ◌<◌, ◌≤◌, length, slice_index};
+ghost use Rattle.records.specs.Bytes.{words_of};
+
+pub(crate) trait Given: Copy {
+    ghost numbers: { Self → List ℕ };
+
+    // How many there are.
+    fn count(self) -> usize
+        ensures value { result ≡ length (numbers self) }
+        ensures upper_bound { result ≤ 2 ^ 62 };
+
+    // The i-th of them.
+    fn number_at(self, i: usize) -> u32
+        requires { i < length (numbers self) }
+        ensures { result ≡ slice_index (numbers self) i };
 }
 
-// The i-th of them.
-#[tactic(auto, using(crate::proofs::GivenLaws::giving))]
-pub fn number_at(numbers: &[u32], bytes: &[u8], i: usize) -> u32
-    requires { i < length (given numbers.now bytes.now) }
-    ensures { result ≡ slice_index (given numbers.now bytes.now) i }
-{
-    if i < numbers.len() {
-        return numbers[i];
+impl Given for &[u32] {
+    ghost numbers = { λ v. v.now };
+
+    #[inline(always)]
+    fn count(self) -> usize {
+        self.len()
     }
-    records::bytes::word(bytes, 4 * (i - numbers.len()))
+
+    #[inline(always)]
+    fn number_at(self, i: usize) -> u32 {
+        self[i]
+    }
+}
+
+impl Given for &[u8] {
+    ghost numbers = { λ v. words_of v.now };
+
+    #[inline(always)]
+    fn count(self) -> usize {
+        self.len() / 4
+    }
+
+    #[inline(always)]
+    fn number_at(self, i: usize) -> u32 {
+        records::bytes::word(self, 4 * i)
+    }
 }

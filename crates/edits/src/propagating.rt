@@ -44,6 +44,7 @@ fn propagate_each(run: &mut [u32], table: &[u32], wants: u32, n: usize)
     ensures { Propagates wants n run.old run.new }
 {
     let mut s = 0;
+    // No `for`: each step is as long as its group.
     while s < n {
         let e = lists::groups::cluster_end(run, s, n);
         propagate_group(run, table, wants, s, e);

@@ -1,5 +1,6 @@
 // One glyph that goes behind the output, by places. Where the output would overtake the cursor it moves to the other slice first: `apart`.
-ghost use Rattle.std.specs.Prelude.{◌≡◌, ◌+◌, ◌≤◌, [], ◌∷◌, length, if◌then◌else◌};
+// The branches are by what the state says as the call runs: closures would be chosen by the same `if`.
+ghost use Rattle.std.specs.Prelude.{◌≡◌, ◌+◌, ◌≤◌, [], ◌∷◌, length};
 ghost use Rattle.records.specs.View.{glyphs, seen};
 ghost use Rattle.lists.specs.inner.Copied.{copied};
 ghost use Rattle.edits.specs.inner.Puts.{Puttable, Brought, Wrote, Modelled, Outputable, Outputs};
@@ -65,28 +66,16 @@ fn model(run: &[u32], other: &[u32], at: Lists) -> GlyphInfo
     writing::last_done(run, other, at.separate, at.out_len)
 }
 
-// The glyph's own number, or another.
-#[tactic(auto, using(crate::proofs::PutLaws::put_laws))]
-fn number_of(g: GlyphInfo, own: bool, number: u32) -> u32
-    ensures { result ≡ (if own then (seen g).glyph else number) }
-{
-    if own {
-        return g.glyph;
-    }
-    number
-}
-
-// A copy of it goes behind the output, under its own number or another.
+// A copy of it goes behind the output, under another number or, with none, its own.
 pub(crate) fn output(
     run: &mut [u32],
     other: &mut [u32],
     at: Lists,
     apart: bool,
-    own: bool,
-    number: u32,
+    number: Option<u32>,
 )
     requires { Outputable at run.old other.old }
-    ensures { Outputs at apart own number run.old other.old run.new other.new }
+    ensures { Outputs at apart number run.old other.old run.new other.new }
 {
     let g = model(run, other, at);
     put_one(
@@ -94,6 +83,6 @@ pub(crate) fn output(
         other,
         at,
         apart,
-        numbered(g, number_of(g, own, number)),
+        numbered(g, number.unwrap_or(g.glyph)),
     );
 }

@@ -54,6 +54,7 @@ fn mask_glyph(ws: &mut [u32], i: usize, value: u32, mask: u32, start: u32, end: 
     }
 }
 
+#[tactic(auto, using(lists::proofs::Editing::editing))]
 fn mask_glyphs(ws: &mut [u32], n: usize, value: u32, mask: u32, start: u32, end: u32)
     requires { n ≤ length (glyphs ws.old) }
     ensures { glyphs ws.new ≡ edit 0 n (masked value mask start end) (glyphs ws.old) }
@@ -64,6 +65,7 @@ fn mask_glyphs(ws: &mut [u32], n: usize, value: u32, mask: u32, start: u32, end:
 }
 
 #[inline(always)]
+#[tactic(auto, using(crate::proofs::Relabelings::mask_calls))]
 fn masks_verdict(b: Buffer, first: &[u32], second: &[u32], mask: u32) -> Decision
     ensures { SetsMasks mask b first.now second.now result }
 {
@@ -78,7 +80,7 @@ fn masks_verdict(b: Buffer, first: &[u32], second: &[u32], mask: u32) -> Decisio
     verdicts::leaves(paid, true, None)
 }
 
-// 1A
+// 1A. Its four operands stay four, as document 01 lists them: one test reads the ends, and one expression the bits.
 #[inline(always)]
 pub fn set_masks(
     b: Buffer,

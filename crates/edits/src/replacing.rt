@@ -1,16 +1,15 @@
 // Replacing: calls 0D and 0E. Each decides, acts and settles.
 ghost use Rattle.lists.specs.inner.Verdicts.{amended};
-ghost use Rattle.std.specs.Prelude.{◌≡◌, false, [], ◌∷◌};
+ghost use Rattle.std.specs.Prelude.{◌≡◌, false, Some, [], ◌∷◌};
 ghost use Rattle.records.specs.Bytes.{words_of};
 ghost use Rattle.lists.specs.Contract.{Meets};
 ghost use Rattle.edits.specs.inner.MergeActs.{merge_limits};
 ghost use Rattle.edits.specs.Writing.{replace_glyphs};
-ghost use Rattle.edits.specs.inner.Acts.{given};
 ghost use Rattle.edits.specs.inner.Puts.{costing, OutputDecided, ReplaceDecided};
 
 use super::merges::clusters_merge;
-use super::numbers::count;
-use super::{Way, lists_at, merge_acts, puts, replace_acts, writing};
+use super::numbers::Given;
+use super::{merge_acts, puts, replace_acts, ways, writing};
 use lists::{Buffer, Decision, Reply, Verdict, state, swapping, verdicts};
 use records::Refusal;
 
@@ -30,16 +29,16 @@ fn paying(decision: Decision, merges: bool, n: usize) -> Decision
 
 // The size first, then the merge of the inputs. Of the numbers only their count is read.
 #[inline(always)]
-fn replace_verdict(
+#[tactic(auto, using(crate::proofs::ReplaceCalls::replace_calls))]
+fn replace_verdict<G: Given>(
     b: Buffer,
     first: &[u32],
     second: &[u32],
     num_in: usize,
     num_out: usize,
-    numbers: &[u32],
-    bytes: &[u8],
+    numbers: G,
 ) -> Decision
-    ensures { ReplaceDecided num_in num_out (given numbers.now bytes.now) b first.now second.now result }
+    ensures { ReplaceDecided num_in num_out (G.numbers numbers) b first.now second.now result }
 {
     state::sound(b, first, second)?;
     let phase = b.phase;
@@ -51,7 +50,7 @@ fn replace_verdict(
         if left < num_in {
             return Err(Refusal::OutOfRange);
         }
-        if count(numbers, bytes) < num_out {
+        if numbers.count() < num_out {
             return Err(Refusal::BadOperand);
         }
         let v = writing::write_verdict(b, records::glyphs::capacity(first), num_in, num_out, true);
@@ -62,27 +61,22 @@ fn replace_verdict(
 
 // 0E, of numbers that are given in either way.
 #[inline(always)]
-fn replace_given(
+fn replace_given<G: Given>(
     b: Buffer,
     first: &mut [u32],
     second: &mut [u32],
     num_in: usize,
     num_out: usize,
-    numbers: &[u32],
-    bytes: &[u8],
+    numbers: G,
 ) -> Reply
-    ensures { Meets (λ capacity a. replace_glyphs capacity num_in num_out (given numbers.now bytes.now) a) b first.old second.old result first.new second.new }
+    ensures { Meets (λ capacity a. replace_glyphs capacity num_in num_out (G.numbers numbers) a) b first.old second.old result first.new second.new }
 {
-    let decision = replace_verdict(b, first, second, num_in, num_out, numbers, bytes);
-    let way = Way {
-        merges: clusters_merge(b.level),
-        level: b.level,
-        wants: b.wants,
-    };
-    let at = lists_at::lists_of(b);
+    let decision = replace_verdict(b, first, second, num_in, num_out, numbers);
+    let way = ways::way_of(b, clusters_merge(b.level));
+    let at = state::lists_of(b);
     let apart = verdicts::moves_apart(decision);
     swapping::carry_out(b, decision, first, second, |run, other| {
-        replace_acts::replace(run, other, at, apart, way, num_in, num_out, numbers, bytes)
+        replace_acts::replace(run, other, at, apart, way, num_in, num_out, numbers)
     })
 }
 
@@ -98,7 +92,7 @@ pub fn replace_glyphs(
 ) -> Reply
     ensures { Meets (λ capacity a. replace_glyphs capacity num_in num_out numbers.now a) b first.old second.old result first.new second.new }
 {
-    replace_given(b, first, second, num_in, num_out, numbers, &[])
+    replace_given(b, first, second, num_in, num_out, numbers)
 }
 
 // 0E, of numbers in a string of bytes, four bytes a number. Bytes after the last whole one are left alone.
@@ -113,13 +107,14 @@ pub fn replace_glyphs_from_bytes(
 ) -> Reply
     ensures { Meets (λ capacity a. replace_glyphs capacity num_in num_out (words_of bytes.now) a) b first.old second.old result first.new second.new }
 {
-    replace_given(b, first, second, num_in, num_out, &[], bytes)
+    replace_given(b, first, second, num_in, num_out, bytes)
 }
 
 // One glyph for one merges nothing, and does not overtake the cursor.
 #[inline(always)]
+#[tactic(auto, using(crate::proofs::ReplaceCalls::replace_calls, crate::proofs::WriteCalls::write_calls))]
 fn one_verdict(b: Buffer, first: &[u32], second: &[u32], number: u32) -> Decision
-    ensures { OutputDecided (λ capacity a. replace_glyphs capacity 1 1 (number ∷ []) a) false number false b first.now second.now result }
+    ensures { OutputDecided (λ capacity a. replace_glyphs capacity 1 1 (number ∷ []) a) (Some number) false b first.now second.now result }
 {
     state::sound(b, first, second)?;
     let phase = b.phase;
@@ -138,12 +133,12 @@ pub fn replace_glyph(b: Buffer, first: &mut [u32], second: &mut [u32], number: u
     ensures { Meets (λ capacity a. replace_glyphs capacity 1 1 (number ∷ []) a) b first.old second.old result first.new second.new }
 {
     let decision = one_verdict(b, first, second, number);
-    let at = lists_at::lists_of(b);
+    let at = state::lists_of(b);
     swapping::carry_out(
         b,
         decision,
         first,
         second,
-        |run, other| puts::output(run, other, at, false, false, number),
+        |run, other| puts::output(run, other, at, false, Some(number)),
     )
 }

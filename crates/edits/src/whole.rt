@@ -29,6 +29,7 @@ pub(crate) fn whole_verdict(b: Buffer, first: &[u32], second: &[u32]) -> Decisio
 
 // 1E, 21 and 22: nor does anything but the slot of their key.
 #[inline(always)]
+#[tactic(auto, using(crate::proofs::Charging::charging))]
 pub(crate) fn keyed_verdict(b: Buffer, first: &[u32], second: &[u32], slot: u32) -> Decision
     ensures { TakesKeyed slot b first.now second.now result }
 {

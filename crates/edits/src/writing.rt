@@ -1,13 +1,13 @@
 // Writing: calls 0A to 0C. Each decides, acts and settles.
 ghost use Rattle.lists.specs.inner.Verdicts.{amended, apart_of};
-ghost use Rattle.std.specs.Prelude.{◌≡◌, ◌+◌, ◌-◌, ◌^◌, ◌<◌, ◌≤◌, true, false, length, if◌then◌else◌, slice_index_or};
+ghost use Rattle.std.specs.Prelude.{◌≡◌, ◌+◌, ◌-◌, ◌^◌, ◌<◌, ◌≤◌, true, None, Some, length, if◌then◌else◌, slice_index_or};
 ghost use Rattle.records.specs.{View.glyphs, View.seen, inner.Stores.zero_glyph};
 ghost use Rattle.lists.specs.Contract.{Meets};
 ghost use Rattle.lists.specs.inner.Verdicts.{settled};
 ghost use Rattle.edits.specs.Writing.{copy_glyph, output_glyph, output_info};
 ghost use Rattle.edits.specs.inner.Puts.{overtakes, lying, Writes, InfoDecided, OutputDecided, size_alone};
 
-use super::{lists_at, puts};
+use super::puts;
 use lists::{Buffer, Decision, Reply, Verdict, state, swapping, verdicts};
 use records::{GlyphInfo, Refusal};
 
@@ -45,8 +45,9 @@ pub(crate) fn write_verdict(
 }
 
 #[inline(always)]
+#[tactic(auto, using(crate::proofs::WriteCalls::write_calls))]
 fn copy_verdict(b: Buffer, first: &[u32], second: &[u32]) -> Decision
-    ensures { OutputDecided (λ capacity a. copy_glyph capacity a) true 0 (apart_of result) b first.now second.now result }
+    ensures { OutputDecided (λ capacity a. copy_glyph capacity a) None (apart_of result) b first.now second.now result }
 {
     state::sound(b, first, second)?;
     let phase = b.phase;
@@ -65,18 +66,19 @@ pub fn copy_glyph(b: Buffer, first: &mut [u32], second: &mut [u32]) -> Reply
     ensures { Meets (λ capacity a. copy_glyph capacity a) b first.old second.old result first.new second.new }
 {
     let decision = copy_verdict(b, first, second);
-    let at = lists_at::lists_of(b);
+    let at = state::lists_of(b);
     let apart = verdicts::moves_apart(decision);
     swapping::carry_out(
         b,
         decision,
         first,
         second,
-        |run, other| puts::output(run, other, at, apart, true, 0),
+        |run, other| puts::output(run, other, at, apart, None),
     )
 }
 
 #[inline(always)]
+#[tactic(auto, using(crate::proofs::WriteCalls::write_calls))]
 fn info_verdict(b: Buffer, first: &[u32], second: &[u32], g: GlyphInfo) -> Decision
     ensures { InfoDecided g b first.now second.now result }
 {
@@ -94,7 +96,7 @@ pub fn output_info(b: Buffer, first: &mut [u32], second: &mut [u32], g: GlyphInf
     ensures { Meets (λ capacity a. output_info capacity (seen g).glyph (seen g).info a) b first.old second.old result first.new second.new }
 {
     let decision = info_verdict(b, first, second, g);
-    let at = lists_at::lists_of(b);
+    let at = state::lists_of(b);
     let h = records::glyphs::with_origin(g, 0);
     let apart = verdicts::moves_apart(decision);
     swapping::carry_out(
@@ -106,7 +108,7 @@ pub fn output_info(b: Buffer, first: &mut [u32], second: &mut [u32], g: GlyphInf
     )
 }
 
-// The last glyph of the output, in whichever slice it lies.
+// The last glyph of the output, in whichever slice it lies: the state says it as the call runs, so no type does.
 #[tactic(auto, using(crate::proofs::Writings::last_glyph))]
 pub(crate) fn last_done(run: &[u32], other: &[u32], separate: bool, out_len: usize) -> GlyphInfo
     requires { (1 ≤ out_len) × (out_len ≤ length (glyphs run.now)) × (out_len ≤ length (glyphs other.now)) }
@@ -128,8 +130,9 @@ fn size_alone(decision: Decision) -> Decision
 }
 
 #[inline(always)]
+#[tactic(auto, using(crate::proofs::WriteCalls::write_calls))]
 fn output_verdict(b: Buffer, first: &[u32], second: &[u32], number: u32) -> Decision
-    ensures { OutputDecided (λ capacity a. output_glyph capacity number a) false number (apart_of result) b first.now second.now result }
+    ensures { OutputDecided (λ capacity a. output_glyph capacity number a) (Some number) (apart_of result) b first.now second.now result }
 {
     state::sound(b, first, second)?;
     let phase = b.phase;
@@ -150,13 +153,13 @@ pub fn output_glyph(b: Buffer, first: &mut [u32], second: &mut [u32], number: u3
     ensures { Meets (λ capacity a. output_glyph capacity number a) b first.old second.old result first.new second.new }
 {
     let decision = output_verdict(b, first, second, number);
-    let at = lists_at::lists_of(b);
+    let at = state::lists_of(b);
     let apart = verdicts::moves_apart(decision);
     swapping::carry_out(
         b,
         decision,
         first,
         second,
-        |run, other| puts::output(run, other, at, apart, false, number),
+        |run, other| puts::output(run, other, at, apart, Some(number)),
     )
 }

@@ -181,4 +181,4 @@ unfolding at_places
 shifts-ready x n m o e h = rw e (omega arith, h)
 
 -- for the proofs of functions
-pub ruleset back-calls = (tried, backs-spent, backs-goes, shifts-spent, shifts-goes, shifts-ready, over-left, over-size, over-goes, over-fails, over-refused)
+pub ruleset back_calls = (tried, backs-spent, backs-goes, shifts-spent, shifts-goes, shifts-ready, over-left, over-size, over-goes, over-fails, over-refused)

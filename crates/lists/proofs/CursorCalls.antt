@@ -192,4 +192,4 @@ module _ {b : Buffer} {f s : List ℕ} {t : Test} {y : Unit {0}} (w : Tested b f
   out-small k = let v = sound-held b f s (tests-sound w h) in omega arith
 
 -- for the proofs of functions
-pub ruleset cursor-calls = (turned, soundness, tested, settles-unsound, settles-refused, settles-accepted, decided-unsound, decided-accepted, decided-sized, enter-spoiled, enter-accepts, leave-spoiled, leave-accepts, lig-spoiled, lig-accepts, skip-spoiled, skip-outside, skip-accepts, next-spoiled, next-outside, next-accepts, next-needs, next-does, room-carriable, sound-idx, sound-len, idx-small, out-small)
+pub ruleset cursor_calls = (turned, soundness, tested, settles-unsound, settles-refused, settles-accepted, decided-unsound, decided-accepted, decided-sized, enter-spoiled, enter-accepts, leave-spoiled, leave-accepts, lig-spoiled, lig-accepts, skip-spoiled, skip-outside, skip-accepts, next-spoiled, next-outside, next-accepts, next-needs, next-does, room-carriable, sound-idx, sound-len, idx-small, out-small)

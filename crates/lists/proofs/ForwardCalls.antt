@@ -99,4 +99,4 @@ module _ {n : ℕ} {b : Buffer} {v : Decision} {m : ℕ} {j k : Limits} {x : Buf
   forwards-goes h ey q = let paid = forths.paid-is (b.out_len.0 + n) n b.limits em ej ek in record { is = rw (forths.negative-is _ paid et h) (q.is ∙ ap (λ (u : Buffer). leaving u true (Some 1)) (ey ∙ (ap (λ (i : ℕ). at_places (b.idx.0 + n) b.len.0 i x) em ∙ ap (at_places (b.idx.0 + n) b.len.0 (b.out_len.0 + n)) (ex ∙ ap (λ (l : Limits). with_limits_of l b) paid)))) }
 
 -- for the proofs of functions
-pub ruleset forward-calls = (tried, moved-forth, moved_back, forth-carriable, back-carriable, forward-size, forward-goes, forward-fails, forward-over, forwards-spent, forwards-goes)
+pub ruleset forward_calls = (tried, moved-forth, moved_back, forth-carriable, back-carriable, forward-size, forward-goes, forward-fails, forward-over, forwards-spent, forwards-goes)

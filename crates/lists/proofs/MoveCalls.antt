@@ -80,4 +80,4 @@ module _ {i l' o' : ℕ} {b : Buffer} {f s : List ℕ} {d : Decision} {t : Bool}
     move-acted k el eo ef es lf ls act = end-acted er w.is et k ef es lf ls (rw (el, eo) at act)
 
 -- for the proofs of functions
-pub ruleset move-calls = (turned, soundness, tested, opens, move-unsound, move-spoiled, move-outside, move-places, opened-left, opened-all, move-over, move-failed, move-stays, move-forward, move-backward, move-back, move-asked, move-acted)
+pub ruleset move_calls = (turned, soundness, tested, opens, move-unsound, move-spoiled, move-outside, move-places, opened-left, opened-all, move-over, move-failed, move-stays, move-forward, move-backward, move-back, move-asked, move-acted)

@@ -205,4 +205,4 @@ pub synced-refused : (b : Buffer) {d : Decision} {why : Refusal} {r : Reply} →
 synced-refused b e er = er ∙ sym (synced-no (record { is = e }))
 
 -- for the proofs of functions
-pub ruleset phase-calls = (turned, soundness, tested, fresh-unsound, fresh-bad, fresh-ahead, fresh_meets, clear-unsound, clear-output, clear-spoiled, clear-ahead, clear-output-meets, clear_first, clear_second, positions-acted, positions-still, sync-unsound, sync-phase, sync-spoils, sync-decided, synced-done, synced-value, synced-refused)
+pub ruleset phase_calls = (turned, soundness, tested, fresh-unsound, fresh-bad, fresh-ahead, fresh_meets, clear-unsound, clear-output, clear-spoiled, clear-ahead, clear-output-meets, clear_first, clear_second, positions-acted, positions-still, sync-unsound, sync-phase, sync-spoils, sync-decided, synced-done, synced-value, synced-refused)

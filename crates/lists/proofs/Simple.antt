@@ -222,4 +222,4 @@ module _ {b : Buffer} {f s : List ℕ} {t : Bool} (w : Soundness b f s t) where
     out_first k e = rw (is-sound w h) (e ∙ (ap (take b.out_len.0) (flags-first b.swapped b.have_separate_output (glyphs f) (glyphs s) k) ∙ sym (done-is b f s)))
 
 -- for the proofs of functions
-pub ruleset out-laws = (out-first-room, out-second-room, out-unsound, out_first, out-second)
+pub ruleset out_laws = (out-first-room, out-second-room, out-unsound, out_first, out-second)

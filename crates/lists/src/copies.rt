@@ -15,7 +15,7 @@ pub fn copy_across(src: &[u32], dst: &mut [u32], from: usize, to: usize, n: usiz
     }
 }
 
-// Towards the front, from the first on.
+// Towards the front, from the first on. Not one function with `copy_across`: a slice is lent once.
 #[tactic(auto, using(crate::proofs::Copying::copying))]
 pub(crate) fn copy_down(ws: &mut [u32], from: usize, to: usize, n: usize)
     requires { (to ≤ from) × (from + n ≤ length (glyphs ws.old)) }

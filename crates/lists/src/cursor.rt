@@ -5,9 +5,7 @@ ghost use Rattle.lists.specs.Cursor.{fresh, enter, leave, allocate_lig_id, clear
 ghost use Rattle.lists.specs.Contract.{account, sound};
 ghost use Rattle.lists.specs.Contract.{Meets};
 
-use super::{
-    Buffer, Lists, Reply, cursor_moves, deciding, fills, moves, state, swapping, verdicts,
-};
+use super::{Buffer, Reply, cursor_moves, deciding, fills, moves, state, swapping, verdicts};
 use records::Position;
 
 // 00
@@ -19,6 +17,7 @@ pub fn fresh(b: Buffer, first: &[u32], second: &[u32], level: u32, wants: u32) -
 }
 
 // 24
+#[tactic(auto, using(crate::proofs::Decisions::settling))]
 pub fn enter(b: Buffer, first: &[u32], second: &[u32]) -> Reply
     ensures { Meets (λ capacity a. enter a) b first.now second.now result first.now second.now }
 {
@@ -27,6 +26,7 @@ pub fn enter(b: Buffer, first: &[u32], second: &[u32]) -> Reply
 }
 
 // 25
+#[tactic(auto, using(crate::proofs::Decisions::settling))]
 pub fn leave(b: Buffer, first: &[u32], second: &[u32]) -> Reply
     ensures { Meets (λ capacity a. leave a) b first.now second.now result first.now second.now }
 {
@@ -35,6 +35,7 @@ pub fn leave(b: Buffer, first: &[u32], second: &[u32]) -> Reply
 }
 
 // 26
+#[tactic(auto, using(crate::proofs::Decisions::settling))]
 pub fn allocate_lig_id(b: Buffer, first: &[u32], second: &[u32]) -> Reply
     ensures { Meets (λ capacity a. allocate_lig_id a) b first.now second.now result first.now second.now }
 {
@@ -70,6 +71,7 @@ pub fn clear_positions(b: Buffer, first: &mut [u32], second: &mut [u32]) -> Repl
 
 // 09
 #[inline(always)]
+#[tactic(auto, using(crate::proofs::Decisions::settling))]
 pub fn skip_glyph(b: Buffer, first: &[u32], second: &[u32]) -> Reply
     ensures { Meets (λ capacity a. skip_glyph a) b first.now second.now result first.now second.now }
 {
@@ -126,12 +128,7 @@ pub fn move_to(b: Buffer, first: &mut [u32], second: &mut [u32], i: usize) -> Re
     ensures { Meets (λ capacity a. move_to capacity i a) b first.old second.old result first.new second.new }
 {
     let decision = cursor_moves::move_verdict(b, first, second, i);
-    let lists = Lists {
-        idx: b.idx.0,
-        len: b.len.0,
-        out_len: b.out_len.0,
-        separate: b.have_separate_output,
-    };
+    let lists = state::lists_of(b);
     let len_after = cursor_moves::len_after(decision);
     let out_after = cursor_moves::out_len_after(decision);
     swapping::carry_out(
@@ -144,6 +141,7 @@ pub fn move_to(b: Buffer, first: &mut [u32], second: &mut [u32], i: usize) -> Re
 }
 
 // The output part of whichever lent slice holds it; of a buffer that contradicts itself, nothing.
+#[tactic(auto, using(crate::proofs::Simple::out_laws))]
 pub fn out_info<'a>(b: Buffer, first: &'a [u32], second: &'a [u32]) -> &'a [u32]
     ensures { (glyphs result.now ≡ cond (sound b first.now second.now) (account b first.now second.now).done []) × (Whole result.now) }
 {

@@ -1,4 +1,6 @@
 // What `move_to` comes to: 10.
+#![tactic(auto, using(crate::proofs::ForwardCalls::forward_calls, crate::proofs::BackCalls::back_calls, crate::proofs::MoveCalls::move_calls))]
+
 ghost use Rattle.std.specs.Prelude.{◌≡◌, ◌+◌, ◌-◌, ◌≤◌, ◌<◌, ◌^◌};
 ghost use Rattle.lists.specs.inner.Moving.{Opened, Forwarding, BackOver, Forwards, Backs, Shifts, MovesForward, MovesBack, MovesTo, len_of, out_len_of};
 
@@ -128,18 +130,12 @@ pub(crate) fn move_verdict(b: Buffer, first: &[u32], second: &[u32], i: usize) -
 pub(crate) fn len_after(decision: Decision) -> usize
     ensures { result ≡ len_of decision }
 {
-    match decision {
-        Ok(v) => v.len,
-        Err(_) => 0,
-    }
+    decision.map_or(0, |v| v.len)
 }
 
 // The end of the output after it.
 pub(crate) fn out_len_after(decision: Decision) -> usize
     ensures { result ≡ out_len_of decision }
 {
-    match decision {
-        Ok(v) => v.out_len,
-        Err(_) => 0,
-    }
+    decision.map_or(0, |v| v.out_len)
 }

@@ -6,15 +6,16 @@ ghost use Rattle.records.specs.Ranges.{infos, clusters, is, isnt, heads};
 ghost use Rattle.records.specs.View.{glyphs};
 
 use super::ranges;
+use records::Key;
 
 // A glyph with a nonzero key continues its grapheme.
 #[tactic(auto, using(crate::proofs::Runs::running))]
-pub fn grapheme_end(ws: &[u32], s: usize, e: usize, slot: u32, mask: u32) -> usize
+pub fn grapheme_end(ws: &[u32], s: usize, e: usize, by: Key) -> usize
     requires { (s < e) × (e ≤ length (glyphs ws.now)) }
-    ensures { result ≡ s + 1 + heads (isnt 0) (slice (s + 1) e (map (key slot mask) (infos (glyphs ws.now)))) }
+    ensures { result ≡ s + 1 + heads (isnt 0) (slice (s + 1) e (map (key by.slot by.mask) (infos (glyphs ws.now)))) }
 {
     for i in s + 1..e {
-        if records::glyphs::key_at(ws, i, slot, mask) == 0 {
+        if records::glyphs::key_at(ws, i, by) == 0 {
             return i;
         }
     }

@@ -7,19 +7,6 @@ ghost use Rattle.lists.specs.{Contract.account_of, Contract.account, Contract.so
 ghost use Rattle.lists.specs.Contract.{items};
 
 use super::{Buffer, Item, state};
-use records::Phase;
-
-// How much of the input no list shows.
-#[tactic(auto, unfolding(crate::specs::Contract::gone_of))]
-fn gone(b: Buffer) -> usize
-    ensures { result ≡ gone_of b }
-{
-    match b.phase {
-        Phase::Plain | Phase::Positions => 0,
-        Phase::Output => b.idx.0,
-        Phase::Spoiled => b.len.0,
-    }
-}
 
 // How many there are.
 #[tactic(auto, using(crate::proofs::ItemLaws::showing))]
@@ -27,7 +14,7 @@ pub fn item_count(b: Buffer, first: &[u32], second: &[u32]) -> usize
     ensures { result ≡ cond (sound b first.now second.now) (length (items (account b first.now second.now))) 0 }
 {
     if state::is_sound(b, first, second) {
-        let n = b.len.0 - gone(b);
+        let n = b.len.0 - state::gone(b);
         if state::have_positions(b.phase) {
             return n + n;
         }
@@ -52,7 +39,7 @@ fn input_item(b: Buffer, run: &[u32], other: &[u32], k: usize) -> Item
     requires { Held b run.now other.now }
     ensures { result ≡ get_or (items (account_of b run.now other.now)) (b.out_len.0 + k) Nothing }
 {
-    let from = gone(b);
+    let from = state::gone(b);
     let n = b.len.0 - from;
     if n <= k {
         return position_item(b, other, k - n);

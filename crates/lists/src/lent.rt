@@ -2,6 +2,7 @@
 ghost use Rattle.lists.specs.Cursor.{next_glyphs, sync, move_to};
 ghost use Rattle.lists.specs.Contract.{Meets};
 
+use super::verdicts::stored;
 use super::{Buffer, cursor};
 use records::Answer;
 
@@ -9,25 +10,19 @@ use records::Answer;
 pub fn next_glyphs(b: &mut Buffer, first: &mut [u32], second: &mut [u32], n: usize) -> Answer
     ensures { Meets (λ capacity a. next_glyphs capacity n a) b.old first.old second.old (record { buffer = b.new; answer = result }) first.new second.new }
 {
-    let r = cursor::next_glyphs(*b, first, second, n);
-    *b = r.buffer;
-    r.answer
+    stored(cursor::next_glyphs(*b, first, second, n), b)
 }
 
 // 10
 pub fn move_to(b: &mut Buffer, first: &mut [u32], second: &mut [u32], i: usize) -> Answer
     ensures { Meets (λ capacity a. move_to capacity i a) b.old first.old second.old (record { buffer = b.new; answer = result }) first.new second.new }
 {
-    let r = cursor::move_to(*b, first, second, i);
-    *b = r.buffer;
-    r.answer
+    stored(cursor::move_to(*b, first, second, i), b)
 }
 
 // 04
 pub fn sync(b: &mut Buffer, first: &mut [u32], second: &mut [u32]) -> Answer
     ensures { Meets (λ capacity a. sync capacity a) b.old first.old second.old (record { buffer = b.new; answer = result }) first.new second.new }
 {
-    let r = cursor::sync(*b, first, second);
-    *b = r.buffer;
-    r.answer
+    stored(cursor::sync(*b, first, second), b)
 }

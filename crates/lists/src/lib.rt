@@ -25,6 +25,7 @@ pub mod swapping;
 pub mod verdicts;
 
 // The state of a buffer, beside the two slices that are lent to every call. specs/Contract.antt says which account it is.
+// State and slices stay apart as parameters: a struct of two `&mut` slices does not prove, and callers lend them so.
 // The fields stand so that no gap between them has three or more odd bytes: LLVM copies such a gap through memory.
 #[derive(Clone, Copy)]
 pub struct Buffer {
@@ -75,7 +76,8 @@ pub struct Verdict {
 // What a call comes to: a verdict, or why it is turned back.
 pub type Decision = Result<Verdict, Refusal>;
 
-// One of the things that a buffer shows: a glyph of a list, or a position.
+// One of the things that a buffer shows: a glyph of a list, or a position. `Nothing` is past the last, and prints nothing: who takes an item
+// needs no second case.
 #[derive(Clone, Copy)]
 pub enum Item {
     OfDone(GlyphInfo),

@@ -1,4 +1,5 @@
-// Moves of glyphs between the input and the output, by places, in whichever slice the output lies.
+// Moves of glyphs between the input and the output, by places, in whichever slice the output lies. Which it is, the state says as the call
+// runs: a closure would be chosen by the same `if`.
 ghost use Rattle.std.specs.Prelude.{◌≡◌, cond, ◌+◌, ◌≤◌, length};
 ghost use Rattle.records.specs.View.{glyphs};
 ghost use Rattle.lists.specs.inner.Copied.{copied};

@@ -1,4 +1,5 @@
 // Ranges of glyphs: searched, and changed glyph by glyph. A range ends before its end.
+// It is two places and no part of the slice: places count glyphs, and only `records` knows where their words lie.
 ghost use Rattle.std.specs.Prelude.{◌≡◌, ◌+◌, ◌-◌, ◌≤◌, length};
 ghost use Rattle.std.proofs.Math.Seq.{slice};
 ghost use Rattle.records.specs.Glyphs.{set_cluster, flagged, flagged_unless};

@@ -2,10 +2,10 @@
 ghost use Rattle.std.specs.Prelude.{◌≡◌, not, cond, Ok, Err, Some, None};
 ghost use Rattle.lists.specs.Account.{output_phase, positions_phase, spoiled_phase, read_level};
 ghost use Rattle.lists.specs.Contract.{Begins};
-ghost use Rattle.lists.specs.{Contract.in_order, inner.Held.Soundness, inner.Held.Tested, inner.Held.room_for};
-ghost use Rattle.lists.specs.inner.States.{most_output, at_places, with_limits_of, fresh_buffer, apart_buffer, opened_buffer, positioned_buffer, swapped_buffer, spoiled_buffer, reply};
+ghost use Rattle.lists.specs.{Contract.gone_of, Contract.in_order, inner.Held.Soundness, inner.Held.Tested, inner.Held.room_for};
+ghost use Rattle.lists.specs.inner.States.{most_output, at_places, lists_of, with_limits_of, fresh_buffer, apart_buffer, opened_buffer, positioned_buffer, swapped_buffer, spoiled_buffer, reply};
 
-use super::{Buffer, Reply};
+use super::{Buffer, Lists, Reply};
 use records::{DonePlace, InputPlace, Limits, Phase, Refusal};
 
 pub fn have_output(phase: Phase) -> bool
@@ -35,6 +35,7 @@ pub fn read_level(level: u32) -> u32
 }
 
 // The most output that there can be: what is allocated where it lies apart, what the cursor left behind where it lies in the run.
+#[tactic(auto, unfolding(crate::specs::inner::States::most_output))]
 fn most_output(b: Buffer) -> usize
     ensures { result ≡ most_output b }
 {
@@ -50,6 +51,7 @@ fn most_output(b: Buffer) -> usize
 
 // Whether the counters agree with each other and with the capacity.
 #[inline(always)]
+#[tactic(auto, using(crate::proofs::SoundLaws::ordering))]
 fn in_order(b: Buffer, capacity: usize) -> bool
     ensures { result ≡ in_order b capacity }
 {
@@ -67,6 +69,7 @@ fn in_order(b: Buffer, capacity: usize) -> bool
 
 // What refusal 1 tests: counters and lengths only.
 #[inline(always)]
+#[tactic(auto, using(crate::proofs::SoundLaws::ordering))]
 pub fn is_sound(b: Buffer, first: &[u32], second: &[u32]) -> bool
     ensures { Soundness b first.now second.now result }
 {
@@ -90,6 +93,7 @@ pub fn sound(b: Buffer, first: &[u32], second: &[u32]) -> Result<(), Refusal>
 
 // "Needs size n": whether it is there, or else given up.
 #[inline(always)]
+#[tactic(auto, unfolding(crate::specs::inner::Held::room_for))]
 pub fn room_for(l: Limits, capacity: usize, n: usize) -> Result<bool, Refusal>
     ensures { result ≡ room_for capacity n l }
 {
@@ -132,6 +136,7 @@ pub(crate) fn answered(b: Buffer, value: u32) -> Reply
     }
 }
 
+#[tactic(auto, unfolding(crate::specs::inner::States::with_limits_of))]
 pub fn with_limits(b: Buffer, l: Limits) -> Buffer
     ensures { result ≡ with_limits_of l b }
 {
@@ -139,6 +144,7 @@ pub fn with_limits(b: Buffer, l: Limits) -> Buffer
 }
 
 // The three places of the cursor, of the input's end and of the output's end.
+#[tactic(auto, unfolding(crate::specs::inner::States::at_places))]
 pub fn at_places(b: Buffer, idx: usize, len: usize, out_len: usize) -> Buffer
     ensures { result ≡ at_places idx len out_len b }
 {
@@ -150,6 +156,7 @@ pub fn at_places(b: Buffer, idx: usize, len: usize, out_len: usize) -> Buffer
     }
 }
 
+#[tactic(auto, unfolding(crate::specs::inner::States::fresh_buffer))]
 pub(crate) fn fresh_buffer(level: u32, wants: u32) -> Buffer
     ensures { result ≡ fresh_buffer level wants }
 {
@@ -159,8 +166,8 @@ pub(crate) fn fresh_buffer(level: u32, wants: u32) -> Buffer
         out_len: DonePlace(0),
         phase: Phase::Plain,
         limits: Limits::fresh(),
-        level: level,
-        wants: wants,
+        level,
+        wants,
         swapped: false,
         have_separate_output: false,
     }
@@ -179,6 +186,7 @@ impl Buffer {
 }
 
 // The run as input for an output that is empty and lies in the run.
+#[tactic(auto, unfolding(crate::specs::inner::States::opened_buffer))]
 pub(crate) fn opened(b: Buffer) -> Buffer
     ensures { result ≡ opened_buffer b }
 {
@@ -191,6 +199,7 @@ pub(crate) fn opened(b: Buffer) -> Buffer
     }
 }
 
+#[tactic(auto, unfolding(crate::specs::inner::States::positioned_buffer))]
 pub(crate) fn positioned(b: Buffer) -> Buffer
     ensures { result ≡ positioned_buffer b }
 {
@@ -209,6 +218,7 @@ fn exchanged(swapped: bool, separate: bool) -> bool
 }
 
 // The output as the run.
+#[tactic(auto, unfolding(crate::specs::inner::States::swapped_buffer))]
 pub(crate) fn swapped(b: Buffer) -> Buffer
     ensures { result ≡ swapped_buffer b }
 {
@@ -223,6 +233,8 @@ pub(crate) fn swapped(b: Buffer) -> Buffer
     }
 }
 
+// Each state by its definition: one function of the phase would only be named twice.
+#[tactic(auto, unfolding(crate::specs::inner::States::spoiled_buffer))]
 pub(crate) fn spoiled(b: Buffer) -> Buffer
     ensures { result ≡ spoiled_buffer b }
 {
@@ -232,5 +244,30 @@ pub(crate) fn spoiled(b: Buffer) -> Buffer
         phase: Phase::Spoiled,
         have_separate_output: false,
         ..b
+    }
+}
+
+// How many glyphs of the input no list shows.
+#[tactic(auto, unfolding(crate::specs::Contract::gone_of))]
+pub fn gone(b: Buffer) -> usize
+    ensures { result ≡ gone_of b }
+{
+    match b.phase {
+        Phase::Plain | Phase::Positions => 0,
+        Phase::Output => b.idx.0,
+        Phase::Spoiled => b.len.0,
+    }
+}
+
+// Where the lists of a buffer lie.
+#[inline(always)]
+pub fn lists_of(b: Buffer) -> Lists
+    ensures { result ≡ lists_of b }
+{
+    Lists {
+        idx: b.idx.0,
+        len: b.len.0,
+        out_len: b.out_len.0,
+        separate: b.have_separate_output,
     }
 }

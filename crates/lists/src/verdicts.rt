@@ -1,10 +1,10 @@
 // What a call comes to, before a word is written, and the reply that is made of it.
 ghost use Rattle.std.specs.Prelude.{◌≡◌, false, None, Ok, ◌+◌, ◌<◌, ◌^◌};
 ghost use Rattle.lists.specs.inner.States.{at_places};
-ghost use Rattle.lists.specs.inner.Verdicts.{Leaves, failed_buffer, Sized, lies_elsewhere, acts_of, apart_of, limited, settled_buffer, settled, settled_as, synced};
+ghost use Rattle.lists.specs.inner.Verdicts.{Leaves, failed_buffer, Sized, lies_elsewhere, acts_of, apart_of, settled_buffer, settled, settled_as, synced};
 
 use super::{Buffer, Decision, Reply, Verdict, state};
-use records::{DonePlace, InputPlace, Limits};
+use records::{Answer, DonePlace, InputPlace};
 
 // The verdict that leaves this state.
 #[inline(always)]
@@ -32,6 +32,7 @@ pub fn fails(b: Buffer, value: Option<u32>) -> Decision
 
 // The cursor goes on by n, and nothing is written.
 #[inline(always)]
+#[tactic(auto, using(crate::proofs::Decisions::settling))]
 pub(crate) fn passes(b: Buffer, n: usize) -> Decision
     requires { b.idx.0 + n < 2 ^ 64 }
     ensures { Leaves (at_places (b.idx.0 + n) b.len.0 b.out_len.0 b) false None result }
@@ -40,8 +41,10 @@ pub(crate) fn passes(b: Buffer, n: usize) -> Decision
     leaves(after, false, None)
 }
 
-// With output: num_in glyphs are taken and num_out written, if their size is there.
+// With output: num_in glyphs are taken and num_out written, if their size is there. The sums are of an operand: no invariant of the state
+// can bound them.
 #[inline(always)]
+#[tactic(auto, using(crate::proofs::Decisions::settling))]
 pub fn writes(b: Buffer, capacity: usize, num_in: usize, num_out: usize, acts: bool) -> Decision
     requires { (b.idx.0 + num_in < 2 ^ 64) × (b.out_len.0 + num_out < 2 ^ 64) }
     ensures { Sized capacity b num_in num_out acts result }
@@ -68,28 +71,14 @@ pub(crate) fn lies_elsewhere(b: Buffer) -> bool
 pub fn acts(decision: Decision) -> bool
     ensures { result ≡ acts_of decision }
 {
-    match decision {
-        Ok(v) => v.acts,
-        Err(_) => false,
-    }
+    decision.is_ok_and(|v| v.acts)
 }
 
 // Whether the output moves to the other slice.
 pub fn moves_apart(decision: Decision) -> bool
     ensures { result ≡ apart_of decision }
 {
-    match decision {
-        Ok(v) => v.apart,
-        Err(_) => false,
-    }
-}
-
-// The same verdict with other limits, which its act came to.
-pub fn limited(decision: Decision, limits: Limits) -> Decision
-    ensures { result ≡ limited limits decision }
-{
-    let v = decision?;
-    Ok(Verdict { limits, ..v })
+    decision.is_ok_and(|v| v.apart)
 }
 
 // The state that a verdict leaves, from the one before the call.
@@ -131,6 +120,7 @@ pub fn settled(b: Buffer, decision: Decision) -> Reply
 
 // The reply of a call that leaves another state than its verdict's places: `after`, where it acts.
 #[inline(always)]
+#[tactic(auto, using(crate::proofs::Decisions::settling))]
 pub(crate) fn settled_as(b: Buffer, after: Buffer, decision: Decision) -> Reply
     ensures { result ≡ settled_as b after decision }
 {
@@ -152,4 +142,12 @@ pub(crate) fn synced(b: Buffer, decision: Decision) -> Reply
         },
         Err(why) => state::refusal(b, why),
     }
+}
+
+// What a call by value leaves, in the state that was lent to it.
+pub fn stored(r: Reply, b: &mut Buffer) -> Answer
+    ensures { record { buffer = b.new; answer = result } ≡ r }
+{
+    *b = r.buffer;
+    r.answer
 }

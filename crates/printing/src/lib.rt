@@ -19,7 +19,7 @@ pub fn script_room() -> [u8; 262145]
     [0; 262145]
 }
 
-// Slices for 2,048 glyphs.
+// Slices for 2,048 glyphs. They are arrays of the program, lent as slices: a type of the array would stand in every signature in place of one fact.
 const WORDS: usize = 2048 * records::words::WORDS;
 
 #[tactic(auto, unfolding(records::specs::Counters::words_for))]

@@ -7,21 +7,23 @@ use Rattle.records.specs.Counters.{capacity_of}
 use Rattle.records.specs.Glyphs.{Glyph, change, set_cluster, with_mask, with_cluster, flagged, flagged_unless, key, zero_position}
 use Rattle.records.specs.Ranges.{clusters}
 use Rattle.records.specs.{View.word, View.up_to, View.made, View.glyph_of, View.glyphs, View.position_of, View.positions_in, View.seen, inner.Stores.zero_glyph, inner.Stores.Put}
+use Rattle.records.proofs.Places.{put-place}
+use Rattle.records.proofs.Tests.{tested}
 use Rattle.records.proofs.View.{length-glyphs, length-positions, cluster-of}
 use Rattle.records.proofs.Made.{get_or-made, put-made, two_made, six-made}
 
 -- ---- a place of a glyph is one of the slice, and of a position too
-pub glyph-place : (ws : List ℕ) (i : ℕ) → i < length (glyphs ws) → i < capacity_of (length ws)
-glyph-place ws i h = rw (length-glyphs ws) at h
+pub glyph_place : (ws : List ℕ) (i : ℕ) → i < length (glyphs ws) → i < capacity_of (length ws)
+glyph_place ws i h = rw (length-glyphs ws) at h
 
-pub position-place : (ws : List ℕ) (i : ℕ) → i < length (positions_in ws) → i < capacity_of (length ws)
-position-place ws i h = rw (length-positions ws) at h
+pub position_place : (ws : List ℕ) (i : ℕ) → i < length (positions_in ws) → i < capacity_of (length ws)
+position_place ws i h = rw (length-positions ws) at h
 
 -- ---- the words that the functions read
 module _ (ws : List ℕ) (i : ℕ) (h : i < length (glyphs ws)) where
   get_or-glyphs : get_or (glyphs ws) i zero_glyph ≡ glyph_of (word ws 0 i) (word ws 1 i) (word ws 2 i) (word ws 3 i) (word ws 4 i) (word ws 5 i)
   unfolding glyphs made up_to
-  get_or-glyphs = get_or-made glyph_of ws i zero_glyph (glyph-place ws i h)
+  get_or-glyphs = get_or-made glyph_of ws i zero_glyph (glyph_place ws i h)
 
   mask_word : word ws 1 i ≡ (get_or (glyphs ws) i zero_glyph).info.mask
   unfolding glyph_of
@@ -99,9 +101,14 @@ module _ (l : List (Glyph ℕ)) (i c bits : ℕ) where
 pub got-position : (ws : List ℕ) (i : ℕ) {a b c d e f : ℕ} → i < length (positions_in ws) → a ≡ word ws 0 i → b ≡ word ws 1 i → c ≡ word ws 2 i → d ≡ word ws 3 i → e ≡ word ws 4 i → f ≡ word ws 5 i
     → record { x_advance = a; y_advance = b; x_offset = c; y_offset = d; var = e; free = f } ≡ get_or (positions_in ws) i zero_position
 unfolding positions_in position_of made up_to
-got-position ws i h p₀ p₁ p₂ p₃ p₄ p₅ = sym (get_or-made position_of ws i zero_position (position-place ws i h) ∙ rw (p₀, p₁, p₂, p₃, p₄, p₅))
+got-position ws i h p₀ p₁ p₂ p₃ p₄ p₅ = sym (get_or-made position_of ws i zero_position (position_place ws i h) ∙ rw (p₀, p₁, p₂, p₃, p₄, p₅))
 
 pub put-positions : {w₀ w₁ w₂ w₃ w₄ w₅ w₆ : List ℕ} {i : ℕ} {p : Position} → Put w₀ w₁ 0 i p.x_advance → Put w₁ w₂ 1 i p.y_advance → Put w₂ w₃ 2 i p.x_offset → Put w₃ w₄ 3 i p.y_offset → Put w₄ w₅ 4 i p.var → Put w₅ w₆ 5 i p.free
     → positions_in w₆ ≡ set (positions_in w₀) i p
 unfolding positions_in position_of
 put-positions p₀ p₁ p₂ p₃ p₄ p₅ = six-made position_of p₀ p₁ p₂ p₃ p₄ p₅
+
+-- for the proofs of functions
+pub ruleset glyph_words = (length-glyphs, glyph_place, put-place, got-mask, got-cluster, key-first, key-second, same-cluster, got-glyph, new-mask, other-cluster, more-bits, new-cluster, put-glyphs, unless-same, unless-other, tested)
+
+pub ruleset position_words = (length-positions, position_place, put-place, got-position, put-positions)

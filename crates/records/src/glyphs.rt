@@ -1,13 +1,16 @@
 // Glyphs in a slice of words, six words a glyph: glyph number, mask, cluster, var0, var1, origin.
+#![tactic(auto, using(crate::proofs::Stores::glyph_words))]
+
 ghost use Rattle.std.specs.Prelude.{◌≡◌, ◌+◌, ◌<◌, ◌≤◌, length, get_or, take, set, slice_index_or, slice_set};
 ghost use Rattle.records.specs.Counters.{capacity_of, rightly_lent};
 ghost use Rattle.records.specs.Glyphs.{blank, change, set_cluster, with_cluster, with_mask, with_origin, flagged, flagged_unless, key};
 ghost use Rattle.records.specs.Ranges.{clusters};
 ghost use Rattle.records.specs.{View.glyphs, View.Whole, View.seen, inner.Stores.zero_glyph};
 
-use super::{GlyphInfo, words};
+use super::{GlyphInfo, Key, words};
 
 // How many glyphs a slice holds.
+#[tactic(auto, unfolding(crate::specs::Counters::capacity_of))]
 pub fn capacity(ws: &[u32]) -> usize
     ensures { result ≡ capacity_of (length ws.now) }
 {
@@ -15,6 +18,7 @@ pub fn capacity(ws: &[u32]) -> usize
 }
 
 // What refusal 1 reads of the two lent slices.
+#[tactic(auto, unfolding(crate::specs::Counters::rightly_lent, crate::specs::Counters::capacity_of))]
 pub fn rightly_lent(first: &[u32], second: &[u32]) -> bool
     ensures { result ≡ rightly_lent (length first.now) (length second.now) }
 {
@@ -38,12 +42,12 @@ pub fn get(ws: &[u32], i: usize) -> GlyphInfo
     let var1 = words::word_at(ws, 4, i);
     let origin = words::word_at(ws, 5, i);
     GlyphInfo {
-        glyph: glyph,
-        mask: mask,
-        cluster: cluster,
-        var0: var0,
-        var1: var1,
-        origin: origin,
+        glyph,
+        mask,
+        cluster,
+        var0,
+        var1,
+        origin,
     }
 }
 
@@ -60,19 +64,21 @@ pub fn put(ws: &mut [u32], i: usize, g: GlyphInfo)
 }
 
 // A glyph with a number and a cluster, and 0 elsewhere.
+#[tactic(auto, unfolding(crate::specs::View::seen, crate::specs::View::glyph_of, crate::specs::Glyphs::blank))]
 pub fn blank(number: u32, cluster: u32) -> GlyphInfo
     ensures { seen result ≡ record { glyph = number; info = blank cluster } }
 {
     GlyphInfo {
         glyph: number,
         mask: 0,
-        cluster: cluster,
+        cluster,
         var0: 0,
         var1: 0,
         origin: 0,
     }
 }
 
+#[tactic(auto, unfolding(crate::specs::View::seen, crate::specs::View::glyph_of, crate::specs::Glyphs::change, crate::specs::Glyphs::with_origin))]
 pub fn with_origin(g: GlyphInfo, origin: u32) -> GlyphInfo
     ensures { seen result ≡ change (with_origin origin) (seen g) }
 {
@@ -96,14 +102,14 @@ pub fn mask_at(ws: &[u32], i: usize) -> u32
 }
 
 // One of the two variables of a glyph, under a mask.
-pub fn key_at(ws: &[u32], i: usize, slot: u32, mask: u32) -> u32
+pub fn key_at(ws: &[u32], i: usize, by: Key) -> u32
     requires { i < length (glyphs ws.now) }
-    ensures { result ≡ key slot mask (get_or (glyphs ws.now) i zero_glyph).info }
+    ensures { result ≡ key by.slot by.mask (get_or (glyphs ws.now) i zero_glyph).info }
 {
-    if slot == 0 {
-        return mask & words::word_at(ws, 3, i);
+    if by.slot == 0 {
+        return by.mask & words::word_at(ws, 3, i);
     }
-    mask & words::word_at(ws, 4, i)
+    by.mask & words::word_at(ws, 4, i)
 }
 
 // The low three bits of the given mask are taken only where the cluster changes.

@@ -1,4 +1,6 @@
 // Positions in a slice of words, six words a position, of which the last is free.
+#![tactic(auto, using(crate::proofs::Stores::position_words))]
+
 ghost use Rattle.std.specs.Prelude.{◌≡◌, ◌<◌, length, slice_index_or, slice_set};
 ghost use Rattle.records.specs.Glyphs.{zero_position};
 ghost use Rattle.records.specs.View.{positions_in};
@@ -16,12 +18,12 @@ pub fn get(ws: &[u32], i: usize) -> Position
     let var = words::word_at(ws, 4, i);
     let free = words::word_at(ws, 5, i);
     Position {
-        x_advance: x_advance,
-        y_advance: y_advance,
-        x_offset: x_offset,
-        y_offset: y_offset,
-        var: var,
-        free: free,
+        x_advance,
+        y_advance,
+        x_offset,
+        y_offset,
+        var,
+        free,
     }
 }
 
@@ -37,6 +39,7 @@ pub fn put(ws: &mut [u32], i: usize, p: Position)
     words::put_word(ws, 5, i, p.free);
 }
 
+#[tactic(auto, unfolding(crate::specs::Glyphs::zero_position))]
 pub fn zero() -> Position
     ensures { result ≡ zero_position }
 {

@@ -7,6 +7,7 @@ ghost use Rattle.records.specs.{View.word_place, View.word, inner.Stores.Put};
 pub const WORDS: usize = 6;
 
 // How many words a capacity needs.
+#[tactic(auto, unfolding(crate::specs::Counters::words_for))]
 pub fn words_for(capacity: usize) -> usize
     requires { words_for capacity < 2 ^ 64 }
     ensures { result ≡ words_for capacity }
@@ -14,6 +15,7 @@ pub fn words_for(capacity: usize) -> usize
     WORDS * capacity
 }
 
+#[tactic(auto, unfolding(crate::specs::View::word_place, crate::specs::Counters::capacity_of))]
 fn place_of(words: usize, c: usize, i: usize) -> usize
     requires { (c < 6) × (i < capacity_of words) }
     ensures { result ≡ word_place words c i }

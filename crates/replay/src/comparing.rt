@@ -9,7 +9,7 @@ use commands::{lines, reports};
 use lists::Buffer;
 use records::Answer;
 
-// The place after a line, if it stands at a place of the text. It ends with the only line end in it, so its bytes alone tell.
+// The place after a line, if it stands at a place of the text: the tally's, but no more of the tally is needed. It ends with the only line end in it, so its bytes alone tell.
 #[tactic(auto, using(crate::proofs::Bytes::stands_there, crate::proofs::Bytes::stands_nowhere))]
 fn find(line: &[u8], text: &[u8], at: usize) -> Option<usize>
     ensures { Finds line.now text.now at result }

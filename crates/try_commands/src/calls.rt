@@ -4,7 +4,8 @@ ghost use Rattle.lists.specs.Contract.{Meets};
 ghost use Rattle.try_commands.specs.Calls.{comes_to};
 
 use commands::Order;
-use lists::{Buffer, Reply, cursor};
+use lists::verdicts::stored;
+use lists::{Buffer, cursor};
 use records::{Answer, InputPlace, Refusal};
 
 // The calls that the list has.
@@ -19,6 +20,7 @@ pub(crate) enum Call {
     MergeClusters(InputPlace, InputPlace),
 }
 
+// By the bytes themselves, which are the format.
 impl TryFrom<Order> for Call {
     type Error = Refusal;
 
@@ -38,14 +40,6 @@ impl TryFrom<Order> for Call {
             _ => Err(Refusal::Unreadable),
         }
     }
-}
-
-// What a call by value leaves, in a state that is lent.
-fn stored(r: Reply, b: &mut Buffer) -> Answer
-    ensures { record { buffer = b.new; answer = result } ≡ r }
-{
-    *b = r.buffer;
-    r.answer
 }
 
 // 01 and 03 by value, the others lent.

@@ -55,6 +55,7 @@ fn print_report(b: Buffer, first: &[u32], second: &[u32]) {
 #[tactic(auto, using(crate::proofs::Onward::onward))]
 fn play(b: &mut Buffer, first: &mut [u32], second: &mut [u32], list: &[u8]) {
     let mut at = reading::start(list);
+    // Each command says where the next one starts.
     while !reading::is_over(list, at) {
         let taken = reading::take(list, at);
         let byte = byte_at(list, at);

@@ -1,14 +1,14 @@
 -- What the functions below the exported edits ask for and do.
-use mathlib.Core.{Path.◌≡◌, Bool.true, Bool.false, List.List, List.◌++◌}
+use mathlib.Core.{Path.◌≡◌, Bool.Bool, Bool.true, Bool.false, List.List}
 use Rattle.std.specs.Prelude.{ℕ, ◌≤◌}
-use Rattle.records.specs.{Bytes.words_of, Glyphs.Info, Ranges.copies, View.words_from}
-use Rattle.lists.specs.{declared.Buffer.Buffer, declared.Lists.Lists}
+use Rattle.records.specs.{Glyphs.Info, Ranges.copies, View.words_from}
+use Rattle.lists.specs.{declared.Buffer.Buffer}
 use Rattle.lists.specs.{Account.Account, Account.output_phase, Account.spoiled_phase, Cursor.dropping, Contract.account_of, inner.Held.Held, Contract.gone_of}
-use Rattle.edits.specs.Writing.{written}
+use Rattle.edits.specs.{declared.Way.Way, Writing.written}
 
--- where the lists of a buffer lie
-abbrev pub lists_of : Buffer → Lists
-lists_of b = record { idx = b.idx.0; len = b.len.0; out_len = b.out_len.0; separate = b.have_separate_output }
+-- by which level and wants the ranges of a buffer merge, or are flagged
+abbrev pub way_of : Buffer → Bool → Way
+way_of b merges = record { merges = merges; level = b.level; wants = b.wants }
 
 -- h on the account, nothing beyond the allocated size. Limits may change, the size does not
 pub record Acts (h : Account ℕ → Account ℕ) (b : Buffer) (run other : List ℕ) (r : Buffer) (run' other' : List ℕ) : Type 0 where
@@ -18,10 +18,6 @@ pub record Acts (h : Account ℕ → Account ℕ) (b : Buffer) (run other : List
   pub run-beyond : words_from b.limits.allocated run' ≡ words_from b.limits.allocated run
   pub other-beyond : words_from b.limits.allocated other' ≡ words_from b.limits.allocated other
   pub held : Held r run other
-
--- glyph numbers that are given as numbers, then as bytes
-abbrev pub given : List ℕ → List ℕ → List ℕ
-given numbers bytes = numbers ++ words_of bytes
 
 -- copies with these words and numbers, in place of num-in of the input
 unfoldable pub replacing : Info → List ℕ → ℕ → Account ℕ → Account ℕ

@@ -7,7 +7,8 @@ use lib.{Dec.ltb, ListN.length, Seq.slice}
 use Rattle.records.specs.{DonePlace, InputPlace, Glyphs.Glyph, Glyphs.flagged, Ranges.clusters, Ranges.edit, View.glyphs}
 use Rattle.lists.specs.{declared.Buffer.Buffer, declared.Lists.Lists, declared.Reply.Reply}
 use Rattle.lists.specs.{Account.Account, Account.read_level, Contract.Meets, inner.Verdicts.settled, inner.Verdicts.Decided}
-use Rattle.edits.specs.{inner.Acts.lists_of, inner.BoundNumbers.input_number, inner.BoundNumbers.done_number}
+use Rattle.lists.specs.inner.States.{lists_of}
+use Rattle.edits.specs.{inner.BoundNumbers.input_number, inner.BoundNumbers.done_number}
 use Rattle.edits.specs.Flags.{interior, search_level, sought, wants_concat, start_of, end_of, plain_form, outbuffer_form, flag_out_interior, flag_out_all}
 
 -- the run after a plain form

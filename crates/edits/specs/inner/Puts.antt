@@ -2,13 +2,15 @@
 use Rattle.lists.specs.inner.States.{Decision}
 use Rattle.lists.specs.inner.Verdicts.{acts_of, apart_of, amended, limiting_verdict}
 use mathlib.Core.{Path.◌≡◌, Bool.Bool, Bool.false, Bool.cond, Bool.not, Bool.◌&&◌, Bool.◌||◌, List.List, List.[], List.◌∷◌}
-use Rattle.std.specs.Prelude.{ℕ, ◌+◌, ◌-◌, ◌<◌, ◌≤◌}
+use Rattle.std.specs.Option.{unwrap_or}
+use Rattle.std.specs.Prelude.{ℕ, Option, ◌+◌, ◌-◌, ◌<◌, ◌≤◌}
 use lib.{Dec.ltb, ListN.length, ListN.get_or}
 use Rattle.records.specs.{Limits, Glyphs.Glyph, Glyphs.change, Glyphs.with_origin, Ranges.copies, View.glyphs, View.seen, inner.Stores.zero_glyph}
 use Rattle.records.specs.declared.GlyphInfo.{GlyphInfo}
 use Rattle.lists.specs.{declared.Buffer.Buffer, declared.Verdict.Verdict}
 use Rattle.lists.specs.{declared.Lists.Lists, Account.Account, Account.read_level, inner.Copied.copied, Account.Result, inner.Held.room_for, inner.Verdicts.by_size, inner.Verdicts.Sided, inner.Verdicts.settled, inner.Verdicts.Decided}
-use Rattle.edits.specs.{inner.Acts.lists_of, inner.MergeActs.Merges, Merging.clusters_merge, Writing.output_info, Writing.replace_glyphs}
+use Rattle.lists.specs.inner.States.{lists_of}
+use Rattle.edits.specs.{inner.MergeActs.Merges, Merging.clusters_merge, Writing.output_info, Writing.replace_glyphs}
 
 -- whether o glyphs behind the output, in place of i of the input, would overtake the cursor: then the output moves to the other slice
 unfoldable pub overtakes : Buffer → ℕ → ℕ → Bool
@@ -63,9 +65,9 @@ pub record Outputable (at : Lists) (f s : List ℕ) : Type 0 where
   pub fits : at.out_len + 1 ≤ length (glyphs f)
   pub some : at.idx < at.len + at.out_len
 
--- a copy of it stands there, under its own number or another
-pub record Outputs (at : Lists) (apart own : Bool) (number : ℕ) (run other run' other' : List ℕ) : Type 0 where
-  pub is : Wrote at apart (copies (model_at at run other).info (cond own (model_at at run other).glyph number ∷ [])) 1 run other run' other'
+-- a copy of it stands there, under another number or, with none, its own
+pub record Outputs (at : Lists) (apart : Bool) (number : Option ℕ) (run other run' other' : List ℕ) : Type 0 where
+  pub is : Wrote at apart (copies (model_at at run other).info (unwrap_or number (model_at at run other).glyph ∷ [])) 1 run other run' other'
 
 -- there is a glyph at the cursor, and num-in from there on, and room for num-out, of `given` numbers
 pub record Replaceable (at : Lists) (num-in num-out given : ℕ) (f s : List ℕ) : Type 0 where
@@ -88,8 +90,8 @@ pub record Replaces (at : Lists) (apart merges : Bool) (level wants num-in num-o
   pub wrote : Wrote at apart (copies first.info gs) num-out run₁ other₁ run' other'
 
 -- what is promised of a verdict on 0A, 0B and 0D, by whether its output moves
-pub record OutputDecided (call : ℕ → Account ℕ → Result ℕ) (own : Bool) (number : ℕ) (apart : Bool) (b : Buffer) (f s : List ℕ) (d : Decision) : Type 0 where
-  pub is : Decided call b f s (settled b d) (acts_of d) (Outputable (lists_of b) f s) (Outputs (lists_of b) apart own number)
+pub record OutputDecided (call : ℕ → Account ℕ → Result ℕ) (number : Option ℕ) (apart : Bool) (b : Buffer) (f s : List ℕ) (d : Decision) : Type 0 where
+  pub is : Decided call b f s (settled b d) (acts_of d) (Outputable (lists_of b) f s) (Outputs (lists_of b) apart number)
 
 -- and of one on 0C
 pub record InfoDecided (g : GlyphInfo) (b : Buffer) (f s : List ℕ) (d : Decision) : Type 0 where

@@ -3,7 +3,7 @@ use mathlib.Core.{Bool.true, Bool.false, Bool.cond, Bool.not}
 use Rattle.std.specs.Prelude.{ℕ}
 use Rattle.std.specs.Prelude.{Result}
 use Rattle.records.specs.{Plain, Output, Positions, Spoiled, Limits, Refusal, Answer, Counters.fresh_limits}
-use Rattle.lists.specs.{declared.Buffer.Buffer, declared.Reply.Reply, declared.Verdict.Verdict}
+use Rattle.lists.specs.{declared.Buffer.Buffer, declared.Lists.Lists, declared.Reply.Reply, declared.Verdict.Verdict}
 use Rattle.lists.specs.Account.{output_phase}
 
 -- what a call comes to
@@ -18,6 +18,10 @@ with_limits_of l b = record { idx = b.idx; len = b.len; out_len = b.out_len; pha
 
 unfoldable pub at_places : ℕ → ℕ → ℕ → Buffer → Buffer
 at_places i l o b = record { idx = record { 0 = i }; len = record { 0 = l }; out_len = record { 0 = o }; phase = b.phase; limits = b.limits; level = b.level; wants = b.wants; swapped = b.swapped; have_separate_output = b.have_separate_output }
+
+-- where the lists of a buffer lie
+abbrev pub lists_of : Buffer → Lists
+lists_of b = record { idx = b.idx.0; len = b.len.0; out_len = b.out_len.0; separate = b.have_separate_output }
 
 unfoldable pub fresh_buffer : ℕ → ℕ → Buffer
 fresh_buffer level wants = record { idx = record { 0 = 0 }; len = record { 0 = 0 }; out_len = record { 0 = 0 }; phase = Plain; limits = fresh_limits; level = level; wants = wants; swapped = false; have_separate_output = false }

@@ -36,9 +36,6 @@ limiting_verdict l v = record { idx = v.idx; len = v.len; out_len = v.out_len; l
 abbrev pub amended : (Verdict → Verdict) → Decision → Decision
 amended h d = elim d [ Ok v ↦ Ok (h v) | Err why ↦ Err why ]
 
-abbrev pub limited : Limits → Decision → Decision
-limited l d = amended (limiting_verdict l) d
-
 unfoldable pub wrote_buffer : ℕ → ℕ → Buffer → Buffer
 wrote_buffer i o b = at_places (b.idx.0 + i) b.len.0 (b.out_len.0 + o) (with_limits_of (grown (b.out_len.0 + o) b.limits) b)
 

@@ -1,11 +1,18 @@
-use Rattle.commands.specs.Calls.{forms, perform}
-use Rattle.commands.specs.Reading.{operands_of, count, made, ordered, worded_of}
-use Rattle.commands.proofs.CallLaws.{last_byte}
+use Rattle.commands.specs.Reading.{worded_of}
 use Rattle.commands.proofs.calls.call.Goals as goal
 
-pub replace_glyphs-requires : goal.replace_glyphs-requires
-replace_glyphs-requires c = c.requires.1 c.in-14.is
+pub returns-then-byte-lt7 : goal.returns-then-byte-lt7
+unfolding worded_of
+returns-then-byte-lt7 c = c.prepare.ensures _
 
-pub returns-in_default : goal.returns-in_default
-unfolding forms perform operands_of count made ordered worded_of
-returns-in_default c = rw (last_byte c.args.o.byte (search) (search)) c.allocate_lig_id.ensures
+pub returns-then-byte-lt21 : goal.returns-then-byte-lt21
+unfolding worded_of
+returns-then-byte-lt21 c = c.merge.ensures _
+
+pub returns-then-byte-lt26 : goal.returns-then-byte-lt26
+unfolding worded_of
+returns-then-byte-lt26 c = c.flag.ensures _
+
+pub returns : goal.returns
+unfolding worded_of
+returns c = c.arrange.ensures _

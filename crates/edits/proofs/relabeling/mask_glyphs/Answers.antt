@@ -8,6 +8,3 @@ loop-i-init c = search (editing, zero-le)
 
 pub loop-i-preserved : goal.loop-i-preserved
 loop-i-preserved c = search editing
-
-pub returns : goal.returns
-returns c = search editing

@@ -5,7 +5,7 @@ use Rattle.edits.proofs.Acting.{putting}
 use Rattle.edits.proofs.replace_acts.put_copies.Goals as goal
 
 pub overflow_add-at : goal.overflow_add-at
-overflow_add-at c = omega (arith, glyphs-fit c.args.ws.now)
+overflow_add-at g c = omega (arith, glyphs-fit c.args.ws.now)
 
 pub loop-i-preserved : goal.loop-i-preserved
-loop-i-preserved c = search putting
+loop-i-preserved g c = search putting

@@ -4,10 +4,7 @@ use Rattle.std.proofs.Common.{rules}
 use Rattle.edits.proofs.replace_acts.replace.Goals as goal
 
 pub get-g-requires : goal.get-g-requires
-get-g-requires c = search stays-inside
+get-g-requires g c = search stays-inside
 
 pub write_copies-requires : goal.write_copies-requires
-write_copies-requires c = search (put_laws, rules)
-
-pub returns : goal.returns
-returns c = search put_laws
+write_copies-requires g c = search (put_laws, rules)

@@ -1,18 +1,11 @@
 use Rattle.edits.proofs.ReplaceCalls.{replace_calls}
-use Rattle.edits.proofs.WriteCalls.{write_calls}
 use Rattle.edits.proofs.replacing.one_verdict.Goals as goal
 
 pub returns-then-b : goal.returns-then-b
 returns-then-b c = search replace_calls
 
-pub writes-requires : goal.writes-requires
-writes-requires c = search write_calls
-
 pub returns-then-have_output : goal.returns-then-have_output
 returns-then-have_output c = search replace_calls
-
-pub returns-in_err-sound : goal.returns-in_err-sound
-returns-in_err-sound c = search write_calls
 
 pub returns : goal.returns
 returns c = search replace_calls

@@ -5,17 +5,8 @@ use Rattle.edits.proofs.reversing.turn_groups.Goals as goal
 pub loop-i-init : goal.loop-i-init
 loop-i-init g c = search group_turning
 
-pub turn_range-requires : goal.turn_range-requires
-turn_range-requires g c = search group_turning
-
-pub loop-i-smaller : goal.loop-i-smaller
-loop-i-smaller g c = search group_turning
-
 pub loop-i-preserved : goal.loop-i-preserved
 loop-i-preserved g c = search group_turning
-
-pub end_of-e-requires : goal.end_of-e-requires
-end_of-e-requires g c = search (group_turning, rules)
 
 pub turn_range-requires-2 : goal.turn_range-requires-2
 turn_range-requires-2 g c = search (zero-le, rules)

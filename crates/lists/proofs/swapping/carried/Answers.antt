@@ -1,4 +1,4 @@
-use Rattle.std.proofs.Common.{Ok, refl, ap, rules}
+use Rattle.std.proofs.Common.{refl, rules}
 use Rattle.lists.proofs.EitherSlice.{carries-act, carries-none}
 use Rattle.lists.proofs.swapping.carried.Goals as goal
 use Rattle.lists.proofs.swapping.carried.Goals.{else-v, then-v}
