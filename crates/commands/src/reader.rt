@@ -12,7 +12,7 @@ use records::bytes;
 fn operands_of(byte: u8) -> Option<Operands>
     ensures { result ≡ operands_of (form_of byte) }
 {
-    // One arm a byte, as document 01 lists them.
+    // By the bytes, as document 01 lists them: they are the format, and an enum between would say this table twice.
     match byte {
         0x00 => Some(Words(2)),
         0x01 => Some(Words(2)),

@@ -1,6 +1,7 @@
 -- Calls whose act says what is left of the limits: their verdicts, and how such acts stand on the account of a buffer.
 use Rattle.lists.specs.inner.Verdicts.{limiting_verdict}
 use Rattle.lists.specs.inner.Verdicts.{amended}
+use Rattle.lists.proofs.Lying.{Lying}
 use Rattle.lists.proofs.Decisions.{turned, acts-refused}
 use Rattle.lists.specs.inner.States.{Decision}
 use Rattle.lists.specs.inner.Verdicts.{acts_of, Turned}
@@ -13,7 +14,7 @@ use Rattle.lists.proofs.Changed.{other-limits, limits-is}
 use Rattle.lists.specs.{declared.Buffer.Buffer, declared.Reply.Reply, declared.Verdict.Verdict}
 use Rattle.lists.specs.{Account.Account, Contract.Meets, Account.Result, Account.refused, Contract.sound, inner.States.reply, inner.States.with_limits_of, inner.Verdicts.leaving, inner.Verdicts.Leaves, inner.Verdicts.settled, inner.Verdicts.Sided}
 use Rattle.lists.proofs.Sides.{MeetsIn}
-use Rattle.lists.proofs.Decisions.{Lying, Refuses, near-limits, settled_is, acts-is, leaves-is, settles-unsound, settles-refused, meets-sided}
+use Rattle.lists.proofs.Decisions.{Refuses, near-limits, settled_is, acts-is, leaves-is, settles-unsound, settles-refused, meets-sided}
 use Rattle.lists.proofs.SoundLaws.{soundness}
 use Rattle.edits.specs.{inner.Acts.Acts, WholeRun.not_whole, inner.Wholes.WholeInput, inner.Wholes.RunRoom, inner.Wholes.RunOf, inner.Charges.DecidedBy, inner.Charges.running, inner.Charges.Charges, inner.Charges.keyed_verdict, inner.Charges.TakesKeyed}
 use Rattle.edits.proofs.WholeInputs.{whole_test, not-not-whole, whole-lengths}

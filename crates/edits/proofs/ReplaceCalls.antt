@@ -15,7 +15,7 @@ use Rattle.records.specs.{Contradiction, WrongPhase, OutOfRange, BadOperand, Lim
 use Rattle.lists.specs.{declared.Buffer.Buffer}
 use Rattle.lists.specs.{Account.Account, Account.read_level, Account.output_phase, Account.out_length, Account.sized, Account.limiting, Cursor.dropping, Contract.account_of, Contract.gone_of, Contract.sound, inner.Held.Tested, inner.Held.Held, inner.Held.room_for, inner.States.reply, inner.States.with_limits_of, inner.Verdicts.Sized, inner.Verdicts.wrote_buffer}
 use Rattle.lists.proofs.Sides.{MeetsIn, SyncOutput}
-use Rattle.lists.proofs.{Accounts.output-of, SoundLaws.sound-held, Calls.in-call, SoundLaws.tests-sound, Decisions.Lying, Decisions.near-placed, Decisions.decided-unsound, Decisions.decided-refused, Decisions.decided-sized, Inner.sized_of}
+use Rattle.lists.proofs.{Accounts.output-of, SoundLaws.sound-held, Calls.in-call, SoundLaws.tests-sound, Lying.Lying, Decisions.near-placed, Decisions.decided-unsound, Decisions.decided-refused, Decisions.decided-sized, Inner.sized_of}
 use Rattle.lists.proofs.SoundLaws.{soundness}
 use Rattle.records.proofs.Tests.{tested}
 use Rattle.lists.proofs.Changed.{other-limits}

@@ -1,4 +1,5 @@
 -- Verdicts of the calls on the whole run.
+use Rattle.lists.proofs.Lying.{Lying}
 use Rattle.lists.proofs.Decisions.{turned}
 use Rattle.lists.specs.inner.States.{Decision}
 use Rattle.lists.specs.inner.Verdicts.{acts_of, Turned}
@@ -11,7 +12,7 @@ use Rattle.lists.specs.{declared.Buffer.Buffer, declared.Reply.Reply}
 use Rattle.lists.specs.{Account.Account, Contract.Meets, Account.Result, Account.refused, Contract.sound, inner.States.reply, inner.Verdicts.leaving, inner.Verdicts.Leaves, inner.Verdicts.settled, inner.Verdicts.Decided}
 use Rattle.lists.proofs.Sides.{MeetsIn}
 use Rattle.lists.proofs.SoundLaws.{sound-held, soundness}
-use Rattle.lists.proofs.Decisions.{Lying, Refuses, leaves-is, near_same, decided-unsound, decided-refused, decided-does}
+use Rattle.lists.proofs.Decisions.{Refuses, leaves-is, near_same, decided-unsound, decided-refused, decided-does}
 use Rattle.edits.specs.{WholeRun.not_whole, inner.Wholes.WholeInput, inner.Wholes.RunRoom, inner.Wholes.RunOf, inner.Wholes.whole_verdict, inner.Wholes.TakesWhole, inner.Wholes.RunBecomes}
 use Rattle.edits.proofs.WholeInputs.{whole_test, whole-test, whole-input}
 

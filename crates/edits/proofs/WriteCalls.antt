@@ -19,7 +19,7 @@ use Rattle.records.proofs.View.{length-glyphs, glyphs-same}
 use Rattle.lists.specs.{declared.Buffer.Buffer}
 use Rattle.lists.specs.{Account.Account, Account.output_phase, Account.out_length, Account.sized, Cursor.dropping, Account.Result, Contract.account_of, Contract.sound, inner.Held.Tested, inner.Held.Held, inner.Held.room_for, inner.States.reply, inner.States.with_limits_of, inner.Verdicts.leaving, inner.Verdicts.Sized, inner.Verdicts.by_size, inner.Verdicts.wrote_buffer, inner.Verdicts.failed_buffer, inner.Verdicts.settled, inner.Verdicts.Decided}
 use Rattle.lists.proofs.Sides.{MeetsIn, SyncOutput}
-use Rattle.lists.proofs.{SoundLaws.sound-held, SizeLaws.fits-within, Accounts.output-of, Calls.in-call, SoundLaws.tests-sound, Decisions.Lying, Decisions.Needs, Decisions.Rooms, Decisions.room_of, Decisions.meets-sided, Decisions.decided-unsound, Decisions.decided-refused, Decisions.decided-accepted, Decisions.near-limits, Decisions.decided-sized, Decisions.leaves-is, Inner.limits-side, Inner.sized_of}
+use Rattle.lists.proofs.{SoundLaws.sound-held, SizeLaws.fits-within, Accounts.output-of, Calls.in-call, SoundLaws.tests-sound, Lying.Lying, Decisions.Needs, Decisions.Rooms, Decisions.room_of, Decisions.meets-sided, Decisions.decided-unsound, Decisions.decided-refused, Decisions.decided-accepted, Decisions.near-limits, Decisions.decided-sized, Decisions.leaves-is, Inner.limits-side, Inner.sized_of}
 use Rattle.lists.proofs.SoundLaws.{soundness}
 use Rattle.records.proofs.Tests.{tested}
 use Rattle.records.proofs.Edited.{copies-one}

@@ -23,7 +23,8 @@ use Rattle.lists.proofs.BackLaws as backs
 use Rattle.lists.proofs.Inner.{room-is}
 use Rattle.lists.proofs.Moving.{Returnable, shift-moves, return-moves}
 use Rattle.lists.proofs.Copying.{copied-self, copied-nothing}
-use Rattle.lists.proofs.Decisions.{Lying, near-limits, near-placed, leaves-is, decided-accepted, decided-no, decided-does, room_of, over-as, turned-as}
+use Rattle.lists.proofs.Lying.{Lying}
+use Rattle.lists.proofs.Decisions.{near-limits, near-placed, leaves-is, decided-accepted, decided-no, decided-does, room_of, over-as, turned-as}
 
 -- or n glyphs of the output behind it
 pub record Backing (b : Buffer) (n : ℕ) (f s : List ℕ) : Type 0 where

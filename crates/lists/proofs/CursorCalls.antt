@@ -23,7 +23,8 @@ use Rattle.lists.proofs.Inner.{held-limits, few-left, enough-left}
 use Rattle.lists.proofs.SyncLaws.{NextOutput, next-room, next-ready, next-moves}
 use Rattle.lists.proofs.Carrying.{carried_none}
 use Rattle.lists.proofs.Moving.{forward-moves}
-use Rattle.lists.proofs.Decisions.{turned, Lying, near-places, near-limits, near-placed, Refuses, Accepts, accepts, Does, Needs, Rooms, decided-refused, decided-accepted, decided-sized, decided-unsound, settles-accepted, settles-refused, settles-unsound}
+use Rattle.lists.proofs.Lying.{Lying}
+use Rattle.lists.proofs.Decisions.{turned, near-places, near-limits, near-placed, Refuses, Accepts, accepts, Does, Needs, Rooms, decided-refused, decided-accepted, decided-sized, decided-unsound, settles-accepted, settles-refused, settles-unsound}
 use Rattle.records.proofs.Tests.{tested}
 
 -- ---- the first test of many calls

@@ -4,7 +4,6 @@ use mathlib.Core.{Path.◌≡◌, Path.refl, Path.sym, Path.ap, Path.◌∙◌, 
 use Prim.Native.Nat.{ℕ, ◌+◌}
 use lib.{ListN.length}
 use Rattle.records.specs.{Refusal, Contradiction, OverCapacity, Limits, Counters.capacity_of, Counters.failed, Counters.grown, View.words_from}
-use Rattle.records.proofs.View.{lent_same}
 use Rattle.lists.specs.{declared.Buffer.Buffer, declared.Reply.Reply, declared.Verdict.Verdict, inner.Held.Room, inner.Held.fitting, inner.Held.given_up, inner.Held.over_capacity}
 use Rattle.lists.specs.Account.{Account, failing}
 use Rattle.lists.specs.Account.{Result, outcome, refused, accepted, answered, needing}
@@ -15,29 +14,9 @@ use Rattle.lists.proofs.Sides.{MeetsIn}
 use Rattle.lists.specs.inner.Verdicts.{leaving, Leaves, Sized, by_size, wrote_buffer, failed_buffer, settled_buffer, settled, settled_as, acts_of, Turned, Sided, Decided}
 use Rattle.lists.proofs.Tries.{Exits, tried}
 use Rattle.lists.proofs.SizeLaws.{room-why}
-use Rattle.lists.proofs.SoundLaws.{sound-lent, sound-held, held-turned}
 use Rattle.lists.proofs.Calls.{account-first, account-second, judged-sound, shell-unsound, shell-first, shell-second, in-refused, in-accepted, in-answered}
 use Rattle.lists.proofs.Inner.{room-over, room-gives-up, held-failed, failing-of}
-
--- ---- an act, on the side of the run
-module _ {x : Bool} {P : (run other run' other' : List ℕ) → Type 0} {f s f' s' : List ℕ} where
-  pub sided-first : x ≡ false → P f s f' s' → Sided x P f s f' s'
-  sided-first h p = record { first = λ e. p; second = λ e. absurd (false≢true (sym h ∙ e)) }
-
-  pub sided-second : x ≡ true → P s f s' f' → Sided x P f s f' s'
-  sided-second h p = record { first = λ e. absurd (false≢true (sym e ∙ h)); second = λ e. p }
-
--- ---- whichever slice holds the run
-pub record Lying (b : Buffer) (f run other : List ℕ) : Type 0 where
-  pub long : length run ≡ length f
-  pub held : Held b run other
-
-module _ {b : Buffer} {f s : List ℕ} (h : sound b f s ≡ true) where
-  lying-first : Lying b f f s
-  lying-first = record { long = refl; held = sound-held b f s h }
-
-  lying-second : Lying b f s f
-  lying-second = record { long = sym (lent_same f s (sound-lent b f s h)); held = held-turned b f s (sound-held b f s h) }
+use Rattle.lists.proofs.Lying.{sided-first, sided-second, Lying, lying-first, lying-second}
 
 -- ---- the reply of a verdict: b' differs from b in places and limits alone
 pub record Near (b b' : Buffer) : Type 0 where

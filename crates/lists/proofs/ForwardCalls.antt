@@ -19,7 +19,8 @@ use Rattle.lists.proofs.SyncLaws.{NextOutput}
 use Rattle.lists.proofs.ForwardLaws as forths
 use Rattle.lists.proofs.Inner.{room-is}
 use Rattle.lists.proofs.Moving.{forward-moves}
-use Rattle.lists.proofs.Decisions.{Lying, near-limits, near-placed, leaves-is, decided-accepted, decided-no, decided-does, room_of, over-as, turned-as}
+use Rattle.lists.proofs.Lying.{Lying}
+use Rattle.lists.proofs.Decisions.{near-limits, near-placed, leaves-is, decided-accepted, decided-no, decided-does, room_of, over-as, turned-as}
 
 -- ---- the act
 module _ {separate : Bool} {i l o l' o' : ℕ} {run other run' other' : List ℕ} where

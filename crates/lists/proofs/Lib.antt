@@ -22,6 +22,7 @@ pub mod Inner
 pub mod Insertions
 pub mod ItemLaws
 pub mod Joining
+pub mod Lying
 pub mod MoveCalls
 pub mod Moving
 pub mod OriginLaws

@@ -15,7 +15,8 @@ use Rattle.lists.proofs.Sides.{SyncOutput}
 use Rattle.lists.specs.inner.Verdicts.{acts_of, Turned, Leaves, settled, Sided}
 use Rattle.lists.proofs.SoundLaws.{sound-held, soundness}
 use Rattle.lists.proofs.BackLaws as backs
-use Rattle.lists.proofs.Decisions.{turned, Lying, near_same, near-places, decided-unsound, decided-accepted, decided-no, decided-by, end-acted}
+use Rattle.lists.proofs.Lying.{Lying}
+use Rattle.lists.proofs.Decisions.{turned, near_same, near-places, decided-unsound, decided-accepted, decided-no, decided-by, end-acted}
 use Rattle.lists.proofs.BackCalls.{back-decided}
 use Rattle.records.proofs.Tests.{tested}
 

@@ -26,7 +26,8 @@ use Rattle.lists.proofs.Positioning.{Placeable, place-moves}
 use Rattle.lists.proofs.Moving.{forward-moves}
 use Rattle.lists.proofs.Inner.{move-accepted}
 use Rattle.lists.proofs.SyncLaws.{Syncable, sync-in-none, sync-in-spoils, sync-over, sync-gives-up, sync-ready, sync-moves}
-use Rattle.lists.proofs.Decisions.{turned, Lying, Refuses, leaves-is, near_same, settled_is, acts-is, meets-still, meets-refused, decided-still, decided-turned, decided-acts, room_of, over-as, end-acted, end-still}
+use Rattle.lists.proofs.Lying.{Lying}
+use Rattle.lists.proofs.Decisions.{turned, Refuses, leaves-is, near_same, settled_is, acts-is, meets-still, meets-refused, decided-still, decided-turned, decided-acts, room_of, over-as, end-acted, end-still}
 use Rattle.lists.proofs.CursorCalls.{stands, room-carriable}
 use Rattle.records.proofs.Tests.{tested}
 

@@ -39,7 +39,7 @@ pub struct Buffer {
     pub swapped: bool,
     // The output lies in the slice that does not hold the run.
     pub have_separate_output: bool,
-    // One above 3 reads as 0: `state::read_level`.
+    // A number, and no enum: the state is lent and may be any word. One above 3 reads as 0: `state::read_level`.
     pub level: u32,
 }
 

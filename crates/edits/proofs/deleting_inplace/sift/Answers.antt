@@ -1,3 +1,4 @@
+-- With these laws named on the function in place of the answers, the check does not close them.
 -- What is left to do from the cursor on comes to what there was to do.
 use Rattle.edits.proofs.SiftedRuns.{sifting}
 use Rattle.edits.proofs.deleting_inplace.sift.Goals as goal

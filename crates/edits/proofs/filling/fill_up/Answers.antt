@@ -1,3 +1,4 @@
+-- With these laws named on the function in place of the answers, the check does not close them.
 use Rattle.edits.proofs.SetLengths.{length_calls}
 use Rattle.edits.proofs.WholeCalls.{run-laws}
 use Rattle.edits.proofs.filling.fill_up.Goals as goal

@@ -1,3 +1,4 @@
+-- With these laws named on the function in place of the answers, the check does not close them.
 -- The graphemes before s are merged.
 use Rattle.edits.proofs.MergeEach.{merging_each}
 use Rattle.edits.proofs.grouping.merge_each.Goals as goal

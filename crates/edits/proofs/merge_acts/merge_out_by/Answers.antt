@@ -1,3 +1,4 @@
+-- With these laws named on the function in place of the answers, the check does not close them.
 use Rattle.edits.proofs.OutCalls.{out_merge_acting}
 use Rattle.edits.proofs.merge_acts.merge_out_by.Goals as goal
 

@@ -1,3 +1,4 @@
+-- With these laws named on the function in place of the answers, the check does not close them.
 use Rattle.edits.proofs.MergeLaws.{merging}
 use Rattle.std.proofs.Common.{rules}
 use Rattle.edits.proofs.merging.merge_apart.Goals as goal

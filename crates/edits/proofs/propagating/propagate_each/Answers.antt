@@ -1,3 +1,4 @@
+-- With these laws named on the function in place of the answers, the check does not close them.
 use Rattle.std.proofs.Common.{rules}
 use Rattle.edits.proofs.Propagations.{propagating}
 use Rattle.edits.proofs.propagating.propagate_each.Goals as goal

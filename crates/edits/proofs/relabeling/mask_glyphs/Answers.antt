@@ -1,3 +1,4 @@
+-- With these laws named on the function in place of the answers, the check does not close them.
 -- The glyphs up to i are changed.
 use Rattle.std.proofs.Common.{zero-le}
 use Rattle.lists.proofs.Editing.{editing}

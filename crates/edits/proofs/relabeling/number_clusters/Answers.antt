@@ -1,3 +1,4 @@
+-- With these laws named on the function in place of the answers, the check does not close them.
 -- The glyphs up to i have their places as clusters.
 use Rattle.edits.proofs.Relabelings.{relabeling}
 use Rattle.edits.proofs.relabeling.number_clusters.Goals as goal

@@ -1,3 +1,4 @@
+-- With these laws named on the function in place of the answers, the check does not close them.
 -- The first i copies are put.
 use Rattle.std.proofs.Common.{arith}
 use Rattle.records.proofs.View.{glyphs-fit}

@@ -1,3 +1,4 @@
+-- With these laws named on the function in place of the answers, the check does not close them.
 use Rattle.edits.proofs.PutLaws.{put_laws}
 use Rattle.edits.proofs.Chaining.{stays-inside}
 use Rattle.std.proofs.Common.{rules}

@@ -1,3 +1,4 @@
+-- With these laws named on the function in place of the answers, the check does not close them.
 use Rattle.edits.proofs.ReplaceCalls.{replace_calls}
 use Rattle.edits.proofs.replacing.one_verdict.Goals as goal
 

@@ -1,3 +1,4 @@
+-- With these laws named on the function in place of the answers, the check does not close them.
 use Rattle.std.proofs.Common.{zero-le, rules}
 use Rattle.edits.proofs.GroupTurns.{group_turning, groups-done}
 use Rattle.edits.proofs.reversing.turn_groups.Goals as goal

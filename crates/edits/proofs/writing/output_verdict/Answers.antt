@@ -1,3 +1,4 @@
+-- With these laws named on the function in place of the answers, the check does not close them.
 use Rattle.edits.proofs.WriteCalls.{write_calls}
 use Rattle.edits.proofs.writing.output_verdict.Goals as goal
 
