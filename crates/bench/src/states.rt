@@ -2,24 +2,19 @@
 ghost use Rattle.std.specs.Prelude.{ℕ, ◌<◌};
 
 use edits::writing;
-use lists::{Buffer, cursor};
-use records::{DonePlace, InputPlace, Limits, Phase};
+use lists::{Buffer, cursor, state};
+use records::{InputPlace, Limits};
 
 // A whole run of n glyphs, in the first slice.
 pub fn whole(n: usize, allocated: usize, level: u32, wants: u32) -> Buffer {
+    let fresh = state::fresh_buffer(level, wants);
     Buffer {
-        idx: InputPlace(0),
         len: InputPlace(n),
-        out_len: DonePlace(0),
-        phase: Phase::Plain,
         limits: Limits {
             allocated,
-            ..Limits::fresh()
+            ..fresh.limits
         },
-        level,
-        wants,
-        swapped: false,
-        have_separate_output: false,
+        ..fresh
     }
 }
 

@@ -3,19 +3,10 @@ use mathlib.Core.{Path.◌≡◌}
 use Prim.Native.Nat.{ℕ, zero, suc, ◌+◌, ◌≤◌, ◌<◌}
 use native.Mathlib.Omega.{arith}
 use Rattle.records.proofs.{View.seen-number, View.seen-info, ByteLaws.words-of-part}
-use borrow.Author.Tests.{eq-eqb}
-use Rattle.std.specs.Prelude.{Option, None}
 use Rattle.edits.proofs.Writings.{info-origin}
-use Rattle.records.specs.{InputPlace}
-use Rattle.commands.specs.Calls.{bound, input_place}
 
 -- 0C by its operands, 0E by the bytes of its numbers
 pub ruleset operand_laws = (seen-number, seen-info, info-origin, words-of-part)
-
--- the highest word is an open bound
-pub input-open : (n : ℕ) → n ≡ 4294967295 → Path (Option InputPlace) None (bound (λ k. input_place k) n)
-unfolding bound
-input-open n h = rw (eq-eqb n 4294967295 h)
 
 -- none of n bytes from a on
 abbrev pub NoneFrom : ℕ → ℕ → ℕ → Type 0

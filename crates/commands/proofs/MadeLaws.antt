@@ -77,23 +77,22 @@ pub record Made (t : List ℕ) (at : ℕ) (b₀ : Buffer) (f₀ s₀ f s : List 
   pub stays : all_no made ≡ true → (r.buffer ≡ b₀) × (f ≡ f₀) × (s ≡ s₀)
   pub beyond : (m : ℕ) → largest made ≤ m → (words_from m f ≡ words_from m f₀) × (words_from m s ≡ words_from m s₀)
 
-pub made_none : {t : List ℕ} {at : ℕ} {b₀ : Buffer} {f₀ s₀ : List ℕ} {r : Reply} → r ≡ reply b₀ (Ok None) → Made t at r.buffer f₀ s₀ f₀ s₀ r at 0
+pub made_none : {t : List ℕ} {at : ℕ} {f₀ s₀ : List ℕ} {r : Reply} → r.answer ≡ Ok None → Made t at r.buffer f₀ s₀ f₀ s₀ r at 0
 unfolding last_of
-made_none e =
-    rw e (record {
-      few = omega arith;
-      none = λ z. refl;
-      in-string = λ h. h;
-      first-len = refl;
-      second-len = refl;
-      sounds = refl;
-      made = [];
-      many = refl;
-      all = refl;
-      last = refl;
-      stays = λ h. (refl, refl, refl);
-      beyond = λ m h. (refl, refl);
-    })
+made_none e = record {
+  few = omega arith;
+  none = λ z. refl;
+  in-string = λ h. h;
+  first-len = refl;
+  second-len = refl;
+  sounds = refl;
+  made = [];
+  many = refl;
+  all = refl;
+  last = rw e refl;
+  stays = λ h. (refl, refl, refl);
+  beyond = λ m h. (refl, refl);
+}
 
 -- one command
 module _ {t : List ℕ} {at : ℕ} {b : Buffer} {f s : List ℕ} {r : Step} {f' s' : List ℕ} (w : Steps t at b f s r f' s') (h : at < length t) (ef : length f' ≡ length f) (es : length s' ≡ length s) where
@@ -200,4 +199,4 @@ made-runs {t} {b₀} {f₀} {s₀} {f} {s} {r} {r₀} {next} {k} e u h =
       };
     }
 
-pub ruleset running = (made-fits, made_more, running-less)
+pub ruleset running = (made_none, made-fits, made_more, running-less)

@@ -58,21 +58,21 @@ pub record Playing (t : List ℕ) (at : ℕ) (b₀ : Buffer) (f₀ s₀ out₀ f
   pub text : Wrote (flat_map (λ l. l) lines) out₀ 0 w out
   pub inside : w ≤ length out₀
 
-module _ {t : List ℕ} {at : ℕ} {b₀ : Buffer} {f₀ s₀ out₀ : List ℕ} where
-  pub playing-none : {r : Reply} → r ≡ reply b₀ (Ok None) → length t < 2 ^ 64 → Playing t at r.buffer f₀ s₀ out₀ f₀ s₀ out₀ (record { reply = r; next = at }) 0 0
-  unfolding flat_map
-  playing-none e fits = record {
-    state = made_none e;
-    bytes = fits;
-    no_bytes = λ z. refl;
-    out-len = refl;
-    lines = [];
-    each = refl;
-    all_lines = refl;
-    text = record { list = refl; next = refl };
-    inside = omega arith;
-  }
+pub playing-none : {t : List ℕ} {at : ℕ} {f₀ s₀ out₀ : List ℕ} {r : Reply} → r.answer ≡ Ok None → length t < 2 ^ 64 → Playing t at r.buffer f₀ s₀ out₀ f₀ s₀ out₀ (record { reply = r; next = at }) 0 0
+unfolding flat_map
+playing-none e fits = record {
+  state = made_none e;
+  bytes = fits;
+  no_bytes = λ z. refl;
+  out-len = refl;
+  lines = [];
+  each = refl;
+  all_lines = refl;
+  text = record { list = refl; next = refl };
+  inside = omega arith;
+}
 
+module _ {t : List ℕ} {at : ℕ} {b₀ : Buffer} {f₀ s₀ out₀ : List ℕ} where
   module _ {f s out : List ℕ} {x : Step} {k w : ℕ} (v : Playing t at b₀ f₀ s₀ out₀ f s out x k w) where
     module _ {go : Bool} (g : Follows x.next (length t) w (length out) go) (on : go ≡ true) where
       pub playing-fits : k + 1 < 2 ^ 64
@@ -140,4 +140,4 @@ module _ {t : List ℕ} {at : ℕ} {b₀ : Buffer} {f₀ s₀ out₀ : List ℕ}
 pub playing-less : {t : List ℕ} {b : Buffer} {f s f' s' : List ℕ} {at w n : ℕ} {r : Step} {go : Bool} → Steps t at b f s r f' s' → Follows at (length t) w n go → go ≡ true → length t - r.next < length t - at
 playing-less u g on = running-less u (goes-more g on)
 
-pub ruleset playing = (goes-more, playing-fits, playing-less, playing-more, playing-done)
+pub ruleset playing = (playing-none, goes-more, playing-fits, playing-less, playing-more, playing-done)

@@ -2,10 +2,11 @@
 use mathlib.Core.{Path.◌≡◌, Path.refl, Path.sym, Path.ap, Path.ap₂, Path.◌∙◌, Bool.Bool, Bool.true, Bool.false, Bool.cond, List.List, List.[], List.◌∷◌, List.◌++◌, List.map, List.flat_map, List.append-nil, List.append_assoc}
 use Prim.Native.Nat.{ℕ, zero, suc, ◌+◌, ◌-◌, ◌<◌, ◌≤◌, ◌^◌}
 use native.Mathlib.Omega.{arith}
-use lib.{ListN.length, ListN.get_or, ListN.length-map, ListN.length-append, Seq.get_or_at}
+use Rattle.std.specs.{Prelude.slice_get, Option.option_map_or}
+use lib.{ListN.length, ListN.length-map, ListN.length-append, Seq.get_or_at}
 use Rattle.records.specs.{View.glyphs, View.stored}
 use Rattle.lists.specs.{Account.Account, Account.positions, Account.spoiled_phase, Contract.account, Contract.sound, Contract.items}
-use Rattle.lists.specs.{declared.Buffer.Buffer, declared.Item.Item, declared.Item.TheVariants.OfDone, declared.Item.TheVariants.OfPassed, declared.Item.TheVariants.OfRest, declared.Item.TheVariants.OfPosition, declared.Item.TheVariants.Nothing}
+use Rattle.lists.specs.{declared.Buffer.Buffer, declared.Item.Item, declared.Item.TheVariants.OfDone, declared.Item.TheVariants.OfPassed, declared.Item.TheVariants.OfRest, declared.Item.TheVariants.OfPosition}
 use Rattle.lists.proofs.ItemLaws.{items-few, items-most, items-spoiled}
 use Rattle.commands.specs.{Lines.end_line, inner.Writes.end_line_of, Lines.glyph_line, Lines.position_line, Lines.item_line, Lines.sum_line, Lines.lines_above, Lines.last_line, Lines.report_lines, Lines.report, Lines.reported, Lines.line_of, Texts.Prints}
 use Rattle.commands.specs.Totals.{no_totals, counted_below, read_totals}
@@ -14,15 +15,14 @@ use Rattle.commands.proofs.LineLaws.{end-of, glyph-line}
 use Rattle.commands.proofs.TotalLaws.{below_end}
 
 -- ---- one line
-prints-nothing : {l : List ℕ} {at : ℕ} → Prints [] l at at l
+pub prints-nothing : {l : List ℕ} {at : ℕ} → Prints [] l at at l
 prints-nothing = record { room = λ k. record { list = refl; next = omega arith }; none = λ k. (refl, refl); short = omega arith }
 
 some-place : (k : ℕ) → (k ≡ 0 → ⊥) → k ≡ suc (k - 1)
 some-place k h = omega (arith, h)
 
--- a thing's line, and behind them all one line more
-item-at : (l : List Item) (x : List ℕ) (j : ℕ) → (j ≡ length l → ⊥) → item_line (get_or l j Nothing) ≡ line_of j (map item_line l ++ (x ∷ []))
-unfolding item_line
+-- a thing's line, behind them all one line more, and behind that none
+item-at : (l : List Item) (x : List ℕ) (j : ℕ) → (j ≡ length l → ⊥) → line_of j (map item_line l ++ (x ∷ [])) ≡ option_map_or item_line (slice_get l j) []
 item-at [] x zero n = absurd (n refl)
 item-at [] x (suc j) n = refl
 item-at (y ∷ l) x zero n = refl
@@ -41,27 +41,21 @@ module _ (b : Buffer) (f s : List ℕ) where
       unfolding reported report_lines lines_above
       lines-counted = rw (many, h, length-append) (omega (arith, length-map (items (account b f s)) item_line))
 
-    -- the line with a number: the line `end`, that of a thing, the line `sum`
-    module _ {l m : List ℕ} {at k r : ℕ} where
-      pub prints-end : k ≡ 0 → Prints (end_line_of b) l at r m → Prints (line_of k (reported b f s)) l at r m
+    -- the line with a number: the line `end`, the line `sum`, that of a thing
+    module _ (k : ℕ) where
+      pub line_end : k ≡ 0 → line_of k (reported b f s) ≡ end_line_of b
       unfolding reported report_lines lines_above
-      prints-end e p = rw (e, h, ← end-of b f s h) p
+      line_end e = rw (e, h) (sym (end-of b f s h))
 
-      module _ {n : ℕ} (some : k ≡ 0 → ⊥) (e : n ≡ cond (sound b f s) (length (items (account b f s))) 0) where
-        pub prints-item : {item : Item} → (k - 1 ≡ n → ⊥) → item ≡ cond (sound b f s) (get_or (items (account b f s)) (k - 1) Nothing) Nothing → Prints (item_line item) l at r m → Prints (line_of k (reported b f s)) l at r m
-        unfolding reported report_lines lines_above
-        prints-item inner ei p =
-            let shows = items (account b f s) in
-            let line = item-at shows (last_line (account b f s)) (k - 1) (λ (here : k - 1 ≡ length shows). inner (here ∙ sym (many e))) in
-            rw (h, some-place k some, ← line) (rw (ei, h) at p)
+      pub line_sum : (k ≡ 0 → ⊥) → k - 1 ≡ length (items (account b f s)) → line_of k (reported b f s) ≡ sum_line (read_totals (map item_line (items (account b f s))))
+      unfolding reported report_lines lines_above last_line
+      line_sum some last =
+          let shows = items (account b f s) in
+          rw (h, some-place k some) (get_or_at (map item_line shows) (last_line (account b f s)) [] [] (k - 1) (length-map shows item_line ∙ sym last) ∙ ap sum_line (below_end (account b f s) (map item_line shows)))
 
-        pub prints-sum : (t : Totals) → k - 1 ≡ n → t ≡ read_totals (map item_line (items (account b f s))) → Prints (sum_line t) l at r m → Prints (line_of k (reported b f s)) l at r m
-        unfolding reported report_lines lines_above last_line
-        prints-sum t last et p =
-            let shows = items (account b f s) in
-            let line : get_or (map item_line shows ++ (last_line (account b f s) ∷ [])) (k - 1) [] ≡ sum_line t
-            = get_or_at (map item_line shows) (last_line (account b f s)) [] [] (k - 1) (length-map shows item_line ∙ sym (last ∙ many e)) ∙ ap sum_line (below_end (account b f s) (map item_line shows) ∙ sym et) in
-            rw (h, some-place k some, line) p
+      pub line_item : (k ≡ 0 → ⊥) → (k - 1 ≡ length (items (account b f s)) → ⊥) → line_of k (reported b f s) ≡ option_map_or item_line (slice_get (items (account b f s)) (k - 1)) []
+      unfolding reported report_lines lines_above
+      line_item some inner = rw h (ap (λ (i : ℕ). line_of i (report_lines (account b f s))) (some-place k some) ∙ item-at (items (account b f s)) (last_line (account b f s)) (k - 1) inner)
 
     -- "A spoiled buffer prints three zeros."
     pub spoiled-lines : spoiled_phase b.phase ≡ true → reported b f s ≡ end_line_of b ∷ sum_line no_totals ∷ []
@@ -69,15 +63,17 @@ module _ (b : Buffer) (f s : List ℕ) where
     spoiled-lines p = rw (h, end-of b f s h, items-spoiled b f s h p) (ap (λ (t : Totals). end_line (account b f s) ∷ sum_line t ∷ []) (below_end (account b f s) []))
 
   module _ (h : sound b f s ≡ false) where
-    pub prints-none : {l : List ℕ} {at : ℕ} (k : ℕ) → Prints (line_of k (reported b f s)) l at at l
+    pub line_none : (k : ℕ) → line_of k (reported b f s) ≡ []
     unfolding reported
-    prints-none k = rw h prints-nothing
+    line_none k = rw h refl
 
     pub no_lines : 0 ≡ length (reported b f s)
     unfolding reported
     no_lines = rw h
 
 pub ruleset reporting = (count_fits, lines-counted, no_lines)
+
+pub ruleset lines_of_reports = (prints-nothing, line_end, line_sum, line_item, line_none)
 
 -- how many there are at most
 module _ (b : Buffer) (f s : List ℕ) where

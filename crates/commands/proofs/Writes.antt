@@ -1,15 +1,15 @@
 -- One write after another, and lines printed where there is room.
 use mathlib.Core.{Path.◌≡◌, Path.refl, Path.ap, Path.sym, Path.◌∙◌, Bool.Bool, Bool.true, Bool.false, Bool.cond, List.List, List.[], List.◌∷◌, List.◌++◌, List.append_assoc, List.map}
-use Prim.Native.Nat.{ℕ, suc, ◌+◌, ◌-◌, ◌/◌, ◌≤◌, ◌<◌, ◌^◌}
+use Prim.Native.Nat.{ℕ, suc, ◌+◌, ◌-◌, ◌≤◌}
 use native.Mathlib.Nat.{add-zero, add-suc, suc-add}
 use native.Mathlib.Omega.{arith}
 use lib.{ListN.length, ListN.set, ListN.take, ListN.length-append, Seq.sets, Seq.sets-eq, Seq.drop-drop}
 use borrow.Rule.Slice.PartMut.{put_mid}
 use Rattle.std.specs.Int.{from_bool}
-use Rattle.records.specs.{Counters.is_negative, View.seen, declared.GlyphInfo.GlyphInfo}
+use Rattle.records.specs.{View.seen, declared.GlyphInfo.GlyphInfo}
 use Rattle.records.proofs.View.{seen-number, seen-mask, seen-cluster, seen-var0, seen-var1, seen-origin}
 use Rattle.lists.specs.{Account.spoiled_phase, declared.Buffer.Buffer}
-use Rattle.commands.specs.{Lines.decimal, Lines.digit_of, Lines.signed, Lines.ending, Lines.counters_line, Lines.glyph_line, inner.Writes.end_line_of, inner.Writes.Puts, Texts.Wrote, Texts.Prints, Texts.longest, declared.writer.Writer.Writer}
+use Rattle.commands.specs.{Lines.decimal, Lines.ending, Lines.counters_line, Lines.glyph_line, inner.Writes.end_line_of, inner.Writes.Puts, Texts.Wrote, Texts.Prints, Texts.longest, declared.writer.Writer.Writer}
 use Rattle.commands.proofs.Decimals.{one-digit, more-digits, more_length, word_short, count_short, negative_short}
 
 pub sets-append : (l a b : List ℕ) (i : ℕ) → sets l i (a ++ b) ≡ sets (sets l i a) (i + length a) b
@@ -48,20 +48,9 @@ module _ {w x y : Writer} {b : List ℕ} where
 pub ruleset writing = (then_one, then-two, then-three, then-word)
 
 -- ---- numbers
-pub digits-put : {n d : ℕ} {w x y : Writer} → n < 2 ^ 64 → 10 ≤ n → Puts (decimal (n / 10)) w x → d ≡ digit_of n → Puts (d ∷ []) x y → Puts (decimal n) w y
-digits-put {n} fits h p e q = rw (more-digits n fits h, ← e) (then p q)
-
-pub natural-put : (n : ℕ) {w x : Writer} → is_negative n ≡ false → Puts (decimal n) w x → Puts (signed n) w x
-unfolding signed
-natural-put n h p = rw h p
-
-pub negative-put : (n : ℕ) {w x y : Writer} → is_negative n ≡ true → Puts (45 ∷ []) w x → Puts (decimal (4294967296 - n)) x y → Puts (signed n) w y
-unfolding signed
-negative-put n h p q = rw h (then p q)
-
-pub truth_short : (t : Bool) {r : ℕ} → r ≡ from_bool t → length (decimal r) ≡ 1
-truth_short true e = rw (e, one-digit 1 (omega arith)) refl
-truth_short false e = rw (e, one-digit 0 (omega arith)) refl
+pub truth_short : (t : Bool) → length (decimal (from_bool t)) ≡ 1
+truth_short true = rw (one-digit 1 (omega arith)) refl
+truth_short false = rw (one-digit 0 (omega arith)) refl
 
 -- ---- lines
 pub glyph-put : (kind : ℕ) (g : GlyphInfo) {w x : Writer} → Puts (kind ∷ ending (map decimal (g.glyph ∷ g.cluster ∷ g.mask ∷ g.var0 ∷ g.var1 ∷ g.origin ∷ []))) w x → Puts (glyph_line kind (seen g)) w x
@@ -74,9 +63,9 @@ unfolding end_line_of
 counters-put b e p = rw (← e) p
 
 -- what arithmetic needs of numbers
-pub ruleset decimals = (one-digit, more_length)
+pub ruleset decimals = (then, one-digit, more-digits, more_length)
 
-pub ruleset signs = (word_short, negative_short)
+pub ruleset signs = (then, word_short, negative_short)
 
 pub ruleset words = (then, word_short, count_short, truth_short)
 

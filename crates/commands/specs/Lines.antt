@@ -5,8 +5,8 @@ use Rattle.std.specs.Prelude.{◌+◌, ◌-◌, ◌/◌, ◌%◌, ◌∷◌, ◌
 use Rattle.records.specs.Library.{ℕ, zero, suc, Bool, cond, ltb, List, [], map, flat_map, get_or}
 use Rattle.records.specs.{Position, Answers.Said, Answers.ok, Answers.ok_with, Answers.no, Counters.is_negative, Glyphs.Glyph, View.seen}
 use Rattle.lists.specs.{Account.Account, Account.len, Account.idx, Account.out_length, Contract.account, Contract.sound, Contract.items, declared.Buffer.Buffer}
-use Rattle.lists.specs.{declared.Item.Item, declared.Item.TheVariants.OfDone, declared.Item.TheVariants.OfPassed, declared.Item.TheVariants.OfRest}
-use Rattle.lists.specs.{declared.Item.TheVariants.OfPosition, declared.Item.TheVariants.Nothing}
+use Rattle.lists.specs.{declared.Item.Item, declared.Item.TheVariants.OfDone, declared.Item.TheVariants.OfPassed}
+use Rattle.lists.specs.{declared.Item.TheVariants.OfRest, declared.Item.TheVariants.OfPosition}
 use Rattle.commands.specs.{Totals.read_totals, declared.Totals.Totals}
 
 -- ---- numbers
@@ -69,7 +69,6 @@ item_line (OfDone g) = glyph_line 111 (seen g)
 item_line (OfPassed g) = glyph_line 112 (seen g)
 item_line (OfRest g) = glyph_line 105 (seen g)
 item_line (OfPosition q) = position_line q
-item_line Nothing = []
 
 -- "a line `sum`": glyph lines, groups, glyph lines with mask bit 0
 unfoldable pub sum_line : Totals → List ℕ

@@ -2,38 +2,19 @@
 
 #![tactic(auto, unfolding(crate::specs::Calls::bound, crate::specs::Calls::forms, crate::specs::Calls::operand, crate::specs::Calls::input_place, crate::specs::Calls::done_place, crate::specs::Calls::perform, crate::specs::Reading::operands_of, crate::specs::Reading::count, crate::specs::Reading::made, crate::specs::Reading::ordered, crate::specs::Reading::worded_of))]
 
-ghost use Rattle.std.specs.Prelude.{ℕ, List, ◌≡◌, [], ◌∷◌, ◌+◌, ◌*◌, ◌<◌, ◌≤◌, length};
+ghost use Rattle.std.specs.Prelude.{◌≡◌, [], ◌∷◌, ◌+◌, ◌*◌, ◌<◌, ◌≤◌, length};
 ghost use Rattle.records.specs.Bytes.{words_at};
 ghost use Rattle.lists.specs.Contract.{Meets};
-ghost use Rattle.commands.specs.Calls.{bound, input_place, done_place};
 ghost use Rattle.commands.specs.Calls.{perform, c01-push, c07-next-glyph, c0C-output-info, c0E-replace-glyphs};
-ghost use Rattle.commands.specs.Reading.{ordered, worded_of};
+ghost use Rattle.commands.specs.Reading.{worded_of};
+ghost use Rattle.commands.specs.inner.Orders.{Makes};
 
 use super::Order;
 use lists::{Buffer, Reply};
+use records::operands::bound;
 use records::{DonePlace, GlyphInfo, InputPlace};
 
-// A word as a place in the input, and in *done*.
-fn input(w: u32) -> InputPlace
-    ensures { result ≡ input_place w }
-{
-    InputPlace(w as usize)
-}
-
-fn done(w: u32) -> DonePlace
-    ensures { result ≡ done_place w }
-{
-    DonePlace(w as usize)
-}
-
-// A bound: the place of a word, and the highest word is an open one.
-fn bound<P: Copy>(w: u32, place: P) -> Option<P>
-    ensures { result ≡ bound (λ k. place) w }
-{
-    if w == u32::MAX { None } else { Some(place) }
-}
-
-// 0C: a glyph of an order's operands.
+// 0C: a glyph of an order's operands. No function of five words, shared with try_edits: here each word stands beside its name.
 #[tactic(auto, using(crate::proofs::CallLaws::operand_laws), unfolding(crate::specs::Calls::perform))]
 fn output_info(b: Buffer, first: &mut [u32], second: &mut [u32], o: Order) -> Reply
     ensures { Meets (λ capacity a. perform 0 capacity (c0C-output-info o.b o.c o.d o.e) (o.a ∷ []) a) b first.old second.old result first.new second.new }
@@ -96,7 +77,7 @@ fn next_glyph(b: Buffer, first: &mut [u32], second: &mut [u32]) -> Reply
 #[inline(never)]
 fn prepare(b: Buffer, first: &mut [u32], second: &mut [u32], o: Order) -> Reply
     requires { (o.byte < 7) × (o.byte ≡ 1 → ⊥) }
-    ensures { (gs : List ℕ) → Meets (λ capacity a. perform 0 capacity (ordered o gs).call (ordered o gs).glyphs a) b first.old second.old result first.new second.new }
+    ensures { Makes o b first.old second.old result first.new second.new }
 {
     match o.byte {
         0x00 => lists::cursor::fresh(b, first, second, o.a, o.b),
@@ -104,7 +85,7 @@ fn prepare(b: Buffer, first: &mut [u32], second: &mut [u32], o: Order) -> Reply
         0x03 => lists::cursor::clear_output(b, first, second),
         0x04 => lists::cursor::sync(b, first, second),
         0x05 => lists::cursor::clear_positions(b, first, second),
-        _ => edits::filling::place(b, first, second, input(o.a), o.b, o.c, o.d, o.e),
+        _ => edits::filling::place(b, first, second, o.a.into(), o.b, o.c, o.d, o.e),
     }
 }
 
@@ -131,13 +112,13 @@ fn write(b: Buffer, first: &mut [u32], second: &mut [u32], script: &[u8], o: Ord
 #[inline(never)]
 fn merge(b: Buffer, first: &mut [u32], second: &mut [u32], o: Order) -> Reply
     requires { (17 ≤ o.byte) × (o.byte < 21) }
-    ensures { (gs : List ℕ) → Meets (λ capacity a. perform 0 capacity (ordered o gs).call (ordered o gs).glyphs a) b first.old second.old result first.new second.new }
+    ensures { Makes o b first.old second.old result first.new second.new }
 {
     match o.byte {
-        0x11 => edits::merges::merge_clusters(b, first, second, input(o.a), input(o.b)),
-        0x12 => edits::merges::merge_out_clusters(b, first, second, done(o.a), done(o.b)),
-        0x13 => edits::merges::merge_grapheme_clusters(b, first, second, input(o.a), input(o.b)),
-        _ => edits::merges::merge_out_grapheme_clusters(b, first, second, done(o.a), done(o.b)),
+        0x11 => edits::merges::merge_clusters(b, first, second, o.a.into(), o.b.into()),
+        0x12 => edits::merges::merge_out_clusters(b, first, second, o.a.into(), o.b.into()),
+        0x13 => edits::merges::merge_grapheme_clusters(b, first, second, o.a.into(), o.b.into()),
+        _ => edits::merges::merge_out_grapheme_clusters(b, first, second, o.a.into(), o.b.into()),
     }
 }
 
@@ -145,10 +126,11 @@ fn merge(b: Buffer, first: &mut [u32], second: &mut [u32], o: Order) -> Reply
 #[inline(never)]
 fn flag(b: Buffer, first: &mut [u32], second: &mut [u32], o: Order) -> Reply
     requires { (21 ≤ o.byte) × (o.byte < 26) }
-    ensures { (gs : List ℕ) → Meets (λ capacity a. perform 0 capacity (ordered o gs).call (ordered o gs).glyphs a) b first.old second.old result first.new second.new }
+    ensures { Makes o b first.old second.old result first.new second.new }
 {
-    let (start, end) = (bound(o.a, input(o.a)), bound(o.b, input(o.b)));
-    let from = bound(o.a, done(o.a));
+    let start = bound(o.a, InputPlace::from(o.a));
+    let end = bound(o.b, InputPlace::from(o.b));
+    let from = bound(o.a, DonePlace::from(o.a));
     match o.byte {
         0x15 => edits::flagging::unsafe_to_break(b, first, second, start, end),
         0x16 => edits::flagging::unsafe_to_concat(b, first, second, start, end),
@@ -162,16 +144,16 @@ fn flag(b: Buffer, first: &mut [u32], second: &mut [u32], o: Order) -> Reply
 #[inline(never)]
 fn arrange(b: Buffer, first: &mut [u32], second: &mut [u32], o: Order) -> Reply
     requires { (26 ≤ o.byte) × (o.byte < 39) }
-    ensures { (gs : List ℕ) → Meets (λ capacity a. perform 0 capacity (ordered o gs).call (ordered o gs).glyphs a) b first.old second.old result first.new second.new }
+    ensures { Makes o b first.old second.old result first.new second.new }
 {
     match o.byte {
         0x1A => edits::relabeling::set_masks(b, first, second, o.a, o.b, o.c, o.d),
         0x1B => edits::reversing::reverse(b, first, second),
-        0x1C => edits::reversing::reverse_range(b, first, second, input(o.a), input(o.b)),
+        0x1C => edits::reversing::reverse_range(b, first, second, o.a.into(), o.b.into()),
         0x1D => edits::reversing::reverse_clusters(b, first, second),
         0x1E => edits::reversing::reverse_graphemes(b, first, second, o.a, o.b),
         0x1F => edits::relabeling::reset_clusters(b, first, second),
-        0x20 => edits::sorting::sort(b, first, second, input(o.a), input(o.b), o.c, o.d),
+        0x20 => edits::sorting::sort(b, first, second, o.a.into(), o.b.into(), o.c, o.d),
         0x21 => edits::deleting_inplace::delete_glyphs_inplace(b, first, second, o.a, o.b, o.c),
         0x22 => edits::grouping::form_clusters(b, first, second, o.a, o.b),
         0x23 => edits::propagating::propagate_flags(b, first, second),
@@ -193,24 +175,13 @@ pub(crate) fn call(
     requires { (o.byte < 39) × (o.byte ≡ 14 → o.numbers + 4 * o.b ≤ length script.now) }
     ensures { Meets (λ capacity a. perform 0 capacity (worded_of script.now o).call (worded_of script.now o).glyphs a) b first.old second.old result first.new second.new }
 {
-    let byte = o.byte;
-    if byte == 0x01 {
-        return push(b, first, second, o.a, o.b);
+    match o.byte {
+        0x01 => push(b, first, second, o.a, o.b),
+        0x07 => next_glyph(b, first, second),
+        0x00..=0x06 => prepare(b, first, second, o),
+        0x08..=0x10 => write(b, first, second, script, o),
+        0x11..=0x14 => merge(b, first, second, o),
+        0x15..=0x19 => flag(b, first, second, o),
+        _ => arrange(b, first, second, o),
     }
-    if byte == 0x07 {
-        return next_glyph(b, first, second);
-    }
-    if byte < 0x07 {
-        return prepare(b, first, second, o);
-    }
-    if byte < 0x11 {
-        return write(b, first, second, script, o);
-    }
-    if byte < 0x15 {
-        return merge(b, first, second, o);
-    }
-    if byte < 0x1A {
-        return flag(b, first, second, o);
-    }
-    arrange(b, first, second, o)
 }

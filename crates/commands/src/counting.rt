@@ -9,7 +9,7 @@ ghost use Rattle.commands.specs.Totals.{read_line, plus, starts, counted, read_t
 use super::{Entry, Totals};
 use lists::{Buffer, Item};
 
-// What is read of words that are printed: the words. Kind 0 stands for a line that is no glyph's.
+// What is read of words that are printed: the words.
 #[tactic(auto, using(crate::proofs::FieldLaws::number_decimal))]
 fn entry_of(kind: u8, cluster: u32, mask: u32) -> Entry
     ensures { result ≡ record { kind = kind; cluster = number_of (decimal cluster); mask = number_of (decimal mask) } }
@@ -21,42 +21,43 @@ fn entry_of(kind: u8, cluster: u32, mask: u32) -> Entry
     }
 }
 
-// What a reader takes from the line of one thing that a buffer shows.
+// What a reader takes from the line of one thing that a buffer shows, if it is a glyph's.
 #[tactic(auto, using(crate::proofs::TotalLaws::entered))]
-fn entry(item: Item) -> Entry
+fn entry(item: Item) -> Option<Entry>
     ensures { result ≡ read_line (item_line item) }
 {
     match item {
-        Item::OfDone(g) => entry_of(b'o', g.cluster, g.mask),
-        Item::OfPassed(g) => entry_of(b'p', g.cluster, g.mask),
-        Item::OfRest(g) => entry_of(b'i', g.cluster, g.mask),
-        Item::OfPosition(_) => Entry::default(),
-        Item::Nothing => Entry::default(),
+        Item::OfDone(g) => Some(entry_of(b'o', g.cluster, g.mask)),
+        Item::OfPassed(g) => Some(entry_of(b'p', g.cluster, g.mask)),
+        Item::OfRest(g) => Some(entry_of(b'i', g.cluster, g.mask)),
+        Item::OfPosition(_) => None,
     }
 }
 
 // How many groups a line starts: 1 or 0.
 #[tactic(auto, unfolding(crate::specs::Totals::starts))]
-fn started(above: Entry, line: Entry) -> usize
+fn started(above: Option<Entry>, line: Entry) -> usize
     ensures { result ≡ starts above line }
 {
-    usize::from(above.kind != line.kind || above.cluster != line.cluster)
+    usize::from(above.is_none_or(|e| e.kind != line.kind || e.cluster != line.cluster))
 }
 
 // With one line more.
 #[tactic(auto, using(crate::proofs::TotalLaws::starts_most), unfolding(crate::specs::Totals::plus, crate::specs::Totals::counted))]
-fn count(t: Totals, above: Entry, line: Entry) -> Totals
+fn count(t: Totals, above: Option<Entry>, line: Option<Entry>) -> Totals
     requires { t.lines + t.groups + t.marked < 2 ^ 32 }
     ensures { result ≡ plus t (counted above line) }
 {
-    if line.kind == 0 {
-        return t;
-    }
-    let bit = (line.mask % 2) as usize;
-    Totals {
-        lines: t.lines + 1,
-        groups: t.groups + started(above, line),
-        marked: t.marked + bit,
+    match line {
+        Some(e) => {
+            let bit = (e.mask % 2) as usize;
+            Totals {
+                lines: t.lines + 1,
+                groups: t.groups + started(above, e),
+                marked: t.marked + bit,
+            }
+        }
+        None => t,
     }
 }
 
@@ -68,10 +69,9 @@ pub(crate) fn totals(b: Buffer, first: &[u32], second: &[u32]) -> Totals
 {
     let n = lists::items::item_count(b, first, second);
     let mut t = Totals::default();
-    let mut above = Entry::default();
+    let mut above = None;
     for k in 0..n {
-        let item = lists::items::item(b, first, second, k);
-        let line = entry(item);
+        let line = lists::items::item(b, first, second, k).and_then(entry);
         t = count(t, above, line);
         above = line;
     }

@@ -40,7 +40,7 @@ pub struct Taken {
 }
 
 // A byte string and a place in it.
-#[derive(Drop)]
+#[derive(Clone, Copy)]
 pub struct Script<'a> {
     pub bytes: &'a [u8],
     pub place: usize,
@@ -77,8 +77,8 @@ pub struct Played {
     pub commands: usize,
 }
 
-// What a reader takes from the line of a glyph. Kind 0 stands for any other line, so that lines are compared by their kinds alone.
-#[derive(Clone, Copy, Default)]
+// What a reader takes from the line of a glyph: `o`, `p` or `i`, its cluster and its mask.
+#[derive(Clone, Copy)]
 pub struct Entry {
     pub kind: u8,
     pub cluster: u32,

@@ -97,7 +97,6 @@ impl Line for Item {
             Item::OfPassed(g) => write_glyph(w, b'p', g),
             Item::OfRest(g) => write_glyph(w, b'i', g),
             Item::OfPosition(p) => write_position(w, p),
-            Item::Nothing => (),
         }
     }
 }

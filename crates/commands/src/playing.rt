@@ -23,7 +23,7 @@ pub fn play(
 ) -> Played
     ensures { Plays script.now at b first.old second.old out.old result first.new second.new out.new }
 {
-    let reply = lists::state::accepted(b);
+    let reply = lists::state::reply(b, Ok(None));
     let mut last = Step { reply, next: at };
     let mut written = 0;
     let mut commands = 0;

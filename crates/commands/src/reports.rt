@@ -17,6 +17,7 @@ pub fn report_count(b: Buffer, first: &[u32], second: &[u32]) -> usize
 }
 
 // The k-th of them, counted from 0; past the last, nothing.
+#[tactic(auto, using(crate::proofs::ReportLaws::lines_of_reports))]
 pub fn report_line(
     out: &mut [u8],
     at: usize,
@@ -37,5 +38,8 @@ pub fn report_line(
     if i == items::item_count(b, first, second) {
         return lines::print(out, at, &counting::totals(b, first, second));
     }
-    lines::print(out, at, &items::item(b, first, second, i))
+    match items::item(b, first, second, i) {
+        Some(item) => lines::print(out, at, &item),
+        None => at,
+    }
 }

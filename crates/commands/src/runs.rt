@@ -19,7 +19,7 @@ pub fn begin(level: u32, wants: u32) -> Reply
 pub fn run(b: Buffer, first: &mut [u32], second: &mut [u32], script: &[u8]) -> Ran
     ensures { Runs script.now b first.old second.old result first.new second.new }
 {
-    let reply = lists::state::accepted(b);
+    let reply = lists::state::reply(b, Ok(None));
     let mut last = Step { reply, next: 0 };
     let mut commands = 0;
     // Each step says where the next one starts.

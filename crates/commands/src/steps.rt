@@ -18,7 +18,7 @@ pub fn step(b: Buffer, first: &mut [u32], second: &mut [u32], script: &[u8], at:
         }
         None => {
             let next = script.len();
-            let reply = lists::state::refusal(b, Refusal::Unreadable);
+            let reply = lists::state::reply(b, Err(Refusal::Unreadable));
             Step { reply, next }
         }
     }

@@ -41,6 +41,7 @@ impl<'a> Writer<'a> {
     }
 
     // Some bytes, one after the other.
+    #[tactic(auto, using(crate::proofs::Writes::pasted))]
     pub(crate) fn put_all(&mut self, bytes: &[u8])
         requires { self.old.at + length bytes.now ≤ length self.old.out.now }
         ensures { Puts bytes.now self.old self.new }
@@ -64,7 +65,7 @@ impl<'a> Writer<'a> {
     }
 
     // A word that stands for a signed number.
-    #[tactic(auto, using(crate::proofs::Writes::signs))]
+    #[tactic(auto, using(crate::proofs::Writes::signs), unfolding(crate::specs::Lines::signed))]
     fn put_signed(&mut self, w: u32)
         requires { self.old.at + 11 ≤ length self.old.out.now }
         ensures puts { Puts (signed w) self.old self.new }

@@ -6,7 +6,7 @@ ghost use Rattle.driving.specs.Answers.{told, text_of};
 use records::Answer;
 use std::fmt;
 
-// A value where the call gives one, or the number of its refusal.
+// A value where the call gives one, or the number of its refusal. By the bare name `u32::from` it does not prove.
 #[tactic(auto, unfolding(crate::specs::Answers::told))]
 pub fn told(a: Answer) -> Result<Option<u32>, u32>
     ensures { result ≡ told (said a) }
@@ -24,10 +24,8 @@ impl fmt::Display for Printed {
     fn fmt<W: fmt::Write>(&self, f: &mut fmt::Formatter<W>) -> fmt::Result {
         let answer = self.0;
         match told(answer) {
-            Ok(value) => match value {
-                None => write!(f, "ok"),
-                Some(v) => write!(f, "ok {v}"),
-            },
+            Ok(None) => write!(f, "ok"),
+            Ok(Some(v)) => write!(f, "ok {v}"),
             Err(number) => write!(f, "no {number}"),
         }
     }

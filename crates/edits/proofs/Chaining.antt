@@ -28,3 +28,6 @@ module _ {h : Account ℕ → Account ℕ} {b f : Buffer} {run other run₁ othe
     other-beyond = subst (λ (n : ℕ). words_from n other₂ ≡ words_from n other₁) u.size w.other-beyond ∙ u.other-beyond;
     held = held-lengths r run₁ other₁ run other (sym lr) (sym lo) w.held;
   }
+
+-- for the proofs of functions
+pub ruleset staying = (stays-inside)

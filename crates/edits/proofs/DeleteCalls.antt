@@ -1,12 +1,12 @@
 -- Deletion by places, and what 0F comes to, outcome by outcome.
-use Rattle.lists.specs.inner.Verdicts.{amended}
+use Rattle.lists.specs.inner.Verdicts.{amended, Sided}
 use Rattle.std.specs.Prelude.{Ok}
 use Rattle.lists.proofs.Decisions.{turned}
 use Rattle.lists.specs.inner.States.{Decision}
 use Rattle.lists.specs.inner.Verdicts.{Turned}
 use Rattle.std.specs.Prelude.{None}
 use mathlib.Core.{Path.◌≡◌, Path.refl, Path.sym, Path.ap, Path.◌∙◌, Bool.Bool, Bool.true, Bool.false, Bool.cond, Bool.false≢true, List.List}
-use Rattle.std.proofs.Common.{ℕ, ◌+◌, ◌-◌, ◌<◌, ◌≤◌, arith}
+use Rattle.std.proofs.Common.{ℕ, ◌+◌, ◌-◌, ◌<◌, ◌≤◌, arith, le-ltb}
 use lib.{Dec.eqb, Dec.ltb, ListN.length, ListN.take, ListN.get_or}
 use Rattle.records.specs.{Contradiction, WrongPhase, OutOfRange, Glyphs.set_cluster, Ranges.clusters, Ranges.edit, Ranges.tails, Ranges.is, View.glyphs, View.seen, inner.Stores.zero_glyph}
 use Rattle.records.specs.declared.GlyphInfo.{GlyphInfo}
@@ -37,8 +37,8 @@ module _ {separate : Bool} {idx out_length : ℕ} {run other : List ℕ} where
   pub last_found : {c : ℕ} (d : GlyphInfo) → 0 < out_length → c ≡ get_or (clusters (glyphs run)) idx 4294967295 → seen d ≡ get_or (cond separate (glyphs other) (glyphs run)) (out_length - 1) zero_glyph → LastFound separate idx out_length run other (eqb d.cluster c)
   last_found d h ec ed = record { is = λ b v. last-is v d h ec ed }
 
-  pub last-lacks : out_length ≤ 0 → LastFound separate idx out_length run other false
-  last-lacks h = record { is = λ b v. last_none v h }
+  pub last-lacks : out_length ≤ 0 → LastFound separate idx out_length run other (ltb 0 out_length)
+  last-lacks h = rw (le-ltb 0 out_length h) (record { is = λ b v. last_none v h })
 
 module _ {separate t : Bool} {idx len out_length : ℕ} {run other : List ℕ} (w : NextFound idx len run t) where
   pub surviving-next : t ≡ true → Surviving separate idx len out_length run other true
@@ -58,6 +58,19 @@ module _ {separate : Bool} {idx out_length : ℕ} {run other : List ℕ} (g d : 
 
     pub inherits-within : {run' : List ℕ} → separate ≡ false → at ≡ out_length - tails (is d.cluster) (take out_length (clusters (glyphs run))) → glyphs run' ≡ edit at out_length (set_cluster g.cluster g.mask) (glyphs run) → length run' ≡ length run → Inherits separate idx out_length run other run' other
     inherits-within s ea er lr = record { acts = λ b v. inherit-within v Some-out g d eg ed h s ea er lr; own = λ z. refl }
+
+-- the tail of one slice, and nothing of the other
+pub record Retailed (n old c m : ℕ) (out rest out' rest' : List ℕ) : Type 0 where
+  pub is : glyphs out' ≡ edit (n - tails (is old) (take n (clusters (glyphs out)))) n (set_cluster c m) (glyphs out)
+  pub rest-is : rest' ≡ rest
+
+module _ {separate : Bool} {idx out_length : ℕ} {run other run' other' : List ℕ} (g d : GlyphInfo) (Some-out : 0 < out_length) (eg : seen g ≡ get_or (glyphs run) idx zero_glyph) (ed : seen d ≡ get_or (cond separate (glyphs other) (glyphs run)) (out_length - 1) zero_glyph) where
+  pub inherits-tail : g.cluster < d.cluster → Sided separate (Retailed out_length d.cluster g.cluster g.mask) run other run' other' → length run' ≡ length run → length other' ≡ length other → Inherits separate idx out_length run other run' other'
+  inherits-tail h w lr lo = by separate refl
+    where
+      by : (x : Bool) → separate ≡ x → Inherits separate idx out_length run other run' other'
+      by true k = let q = w.second k in rw q.rest-is (inherits-apart g d Some-out eg ed h k refl q.is lo)
+      by false k = let q = w.first k in rw q.rest-is (inherits-within g d Some-out eg ed h k refl q.is lr)
 
 -- ---- the act
 module _ {separate t : Bool} {level wants idx len out_length : ℕ} {run other : List ℕ} (w : Surviving separate idx len out_length run other t) where
@@ -138,4 +151,4 @@ module _ {b : Buffer} {f s : List ℕ} {v : Decision} where
 -- for the proofs of functions
 pub ruleset delete_calls = (turned, soundness, tested, delete-unsound, delete-phase, delete-ended, delete-goes)
 
-pub ruleset delete_acting = (next-found, next-lacks, last_found, last-lacks, surviving-next, surviving-last, inherits-none, inherits-apart, inherits-within, deletes-kept, deletes-inherits, deletes-single, deletes-merges)
+pub ruleset delete_acting = (next-found, next-lacks, last_found, last-lacks, surviving-next, surviving-last, inherits-none, deletes-kept, deletes-inherits, deletes-single, deletes-merges)

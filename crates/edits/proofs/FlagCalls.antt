@@ -1,23 +1,23 @@
 -- The plain flag forms: from what the slice workers leave to the account, and the calls.
 use Rattle.lists.proofs.Decisions.{turned}
 use Rattle.lists.specs.inner.States.{Decision}
-use Rattle.lists.specs.inner.Verdicts.{Turned}
-use Rattle.std.specs.Prelude.{None}
+use Rattle.lists.specs.inner.Verdicts.{acts_of, Turned, leaving, settled, Decided}
+use Rattle.std.specs.Prelude.{None, Err}
 use mathlib.Core.{Path.◌≡◌, Path.refl, Path.sym, Path.ap, Path.◌∙◌, Path.subst, Bool.Bool, Bool.true, Bool.false, Bool.cond, Bool.not, Bool.◌&&◌, Bool.◌||◌, Bool.false≢true, List.List}
 use Rattle.std.specs.Prelude.{Option}
-use Rattle.std.proofs.Common.{ℕ, ◌-◌, ◌/◌, ◌%◌, ◌≤◌, arith, ltb-false, eq-eqb, ne_eqb}
+use Rattle.std.proofs.Common.{ℕ, ◌-◌, ◌≤◌, arith, ltb-false}
 use lib.{Dec.ltb, ListN.length, ListN.drop, Seq.slice}
 use Rattle.records.specs.{Phase, InputPlace, Contradiction, WrongPhase, OutOfRange, Glyphs.flagged, Ranges.clusters, Ranges.edit, View.glyphs, View.positions_in}
 use Rattle.records.proofs.View.{glyphs-same}
 use Rattle.lists.specs.{declared.Buffer.Buffer}
-use Rattle.lists.specs.{Account.read_level, Account.Account, Account.State, Account.output_phase, Account.spoiled_phase, Account.is_spoiled, Account.len, Account.refused, Account.accepted, Contract.shown, Contract.gone_of, Contract.state_of, Contract.account_of, Contract.sound, inner.Held.Held, inner.Verdicts.Leaves}
+use Rattle.lists.specs.{Account.read_level, Account.Account, Account.State, Account.output_phase, Account.spoiled_phase, Account.is_spoiled, Account.len, Account.refused, Account.accepted, Contract.shown, Contract.gone_of, Contract.state_of, Contract.account_of, Contract.sound, Contract.Meets, declared.Reply.Reply, inner.Held.Held, inner.Verdicts.Leaves}
 use Rattle.lists.proofs.{Accounts.spoiled-of, Accounts.len_of, Accounts.gone-of, Accounts.wants-of, SoundLaws.sound-held, Decisions.near_same, Decisions.accepts, Decisions.decided-unsound, Decisions.decided-refused, Decisions.decided-accepted, Decisions.decided-does}
 use Rattle.lists.proofs.SoundLaws.{soundness}
 use Rattle.lists.proofs.Refusing.{refusing}
 use Rattle.records.proofs.Tests.{tested}
 use Rattle.lists.proofs.Showing.{on-shown, account-same}
 use Rattle.records.proofs.Edited.{edit-drop-behind}
-use Rattle.edits.specs.{inner.Acts.Acts, inner.Acts.Mergeful, inner.BoundNumbers.input_number, Flags.interior, Flags.search_level, Flags.sought, Flags.flag_interior, Flags.flag_all, Flags.place_number, Flags.too_far, Flags.start_of, Flags.end_of, Flags.plain_form, Flags.wants_concat, Flags.wants_tatweel, inner.Holding.holds, inner.Marks.flagged_run, inner.Marks.Flaggable, inner.Marks.FlagsInput}
+use Rattle.edits.specs.{inner.Acts.Acts, inner.Acts.Mergeful, inner.BoundNumbers.input_number, Flags.interior, Flags.search_level, Flags.sought, Flags.flag_interior, Flags.flag_all, Flags.place_number, Flags.too_far, Flags.start_of, Flags.end_of, Flags.plain_form, Flags.wants_concat, Flags.wants_tatweel, inner.Holding.holds, inner.Marks.flagged_run, inner.Marks.Flaggable, inner.Marks.Flagged, inner.Marks.flag_verdict, inner.Marks.FlagVerdict, inner.Marks.PlainMeets}
 use Rattle.edits.proofs.MergeForms.{InputRange, InputFrom}
 use Rattle.edits.proofs.BoundLaws.{end-most}
 use Rattle.edits.proofs.FlagLaws.{flagged-all, flagged-all-within}
@@ -97,8 +97,8 @@ module _ (interiorly wanted : Bool) (bits : ℕ) (s e : Option InputPlace) (a : 
       plain-in-flags o = simp (h, k, ← ei, ← ej, ← eg, o, refusing)
 
 -- ---- what the code tested, as the account says it
-pub idle-of : (b : Buffer) (run other : List ℕ) (concat x : Bool) {far idle : Bool} → far ≡ x → idle ≡ (not (not concat || wants_concat b.wants) || far) → (not (not concat || wants_concat (account_of b run other).state.wants) || x) ≡ idle
-idle-of b run other concat x ef ei = rw (wants-of b run other, ← ef) (sym ei)
+pub idle-of : (b : Buffer) (run other : List ℕ) (concat x : Bool) {idle : Bool} → idle ≡ (not (not concat || wants_concat b.wants) || x) → (not (not concat || wants_concat (account_of b run other).state.wants) || x) ≡ idle
+idle-of b run other concat x ei = rw (wants-of b run other) (sym ei)
 
 pub end-of : {b : Buffer} {run other : List ℕ} {j : ℕ} (end : Option InputPlace) → Held b run other → spoiled_phase b.phase ≡ false → j ≡ end_of (input_number end) b.len.0 → j ≡ end_of (input_number end) (len (account_of b run other))
 end-of {b} {run} {other} end v p ee = ee ∙ ap (end_of (input_number end)) (sym (len_of b run other v p))
@@ -116,54 +116,104 @@ mergeful {b} {run} {other} {i} {j} end v p ee n = record {
 flags-range : {b : Buffer} {run other : List ℕ} {s e : ℕ} → Mergeful b s e run other → Flaggable s e run other
 flags-range {b} {run} {other} v = record { order = v.order; same = glyphs-same run other v.held.same; fits = omega (arith, v.end, v.held.len-in, v.held.all_in) }
 
--- ---- what the calls come to, by their tests
+-- ---- the decision of a form, by its tests
+module _ {b : Buffer} {f s : List ℕ} {wrong idle out : Bool} {v : Decision} where
+  pub flag-unsound : sound b f s ≡ false → Turned Contradiction v → FlagVerdict b f s wrong idle out v
+  unfolding flag_verdict
+  flag-unsound h w = record { is = rw h w.is }
+
+  module _ (h : sound b f s ≡ true) where
+    pub flag-wrong : wrong ≡ true → Turned WrongPhase v → FlagVerdict b f s wrong idle out v
+    unfolding flag_verdict
+    flag-wrong k w = record { is = rw (h, k) w.is }
+
+    pub flag-idle : wrong ≡ false → idle ≡ true → Leaves b false None v → FlagVerdict b f s wrong idle out v
+    unfolding flag_verdict
+    flag-idle k n w = record { is = rw (h, k, n) w.is }
+
+    pub flag-outside : wrong ≡ false → idle ≡ false → out ≡ true → Turned OutOfRange v → FlagVerdict b f s wrong idle out v
+    unfolding flag_verdict
+    flag-outside k n o w = record { is = rw (h, k, n, o) w.is }
+
+    pub flag-ahead : wrong ≡ false → idle ≡ false → out ≡ false → Leaves b true None v → FlagVerdict b f s wrong idle out v
+    unfolding flag_verdict
+    flag-ahead k n o w = record { is = rw (h, k, n, o) w.is }
+
+  pub by-tests : {P : Type 0} → FlagVerdict b f s wrong idle out v → (sound b f s ≡ false → Turned Contradiction v → P) → (sound b f s ≡ true → wrong ≡ true → Turned WrongPhase v → P)
+      → (sound b f s ≡ true → wrong ≡ false → idle ≡ true → Leaves b false None v → P)
+      → (sound b f s ≡ true → wrong ≡ false → idle ≡ false → out ≡ true → Turned OutOfRange v → P)
+      → (sound b f s ≡ true → wrong ≡ false → idle ≡ false → out ≡ false → Leaves b true None v → P) → P
+  unfolding flag_verdict
+  by-tests {P} w unsound in-wrong in-idle outside ahead = by (sound b f s) wrong idle out refl refl refl refl w.is
+    where
+      by : (x y z t : Bool) → sound b f s ≡ x → wrong ≡ y → idle ≡ z → out ≡ t
+          → v ≡ cond x (cond y (Err WrongPhase) (cond z (leaving b false None) (cond t (Err OutOfRange) (leaving b true None)))) (Err Contradiction) → P
+      by false y z t h k n o e = unsound h (record { is = e })
+      by true true z t h k n o e = in-wrong h k (record { is = e })
+      by true false true t h k n o e = in-idle h k n (record { is = e })
+      by true false false true h k n o e = outside h k n o (record { is = e })
+      by true false false false h k n o e = ahead h k n o (record { is = e })
+
+-- ---- what the calls come to, by their tests: whatever the form marks with; only a concat form may be unwanted
+pub record FlagsInput (concat : Bool) (start end : Option InputPlace) (b : Buffer) (f s : List ℕ) (d : Decision) : Type 0 where
+  pub is : (interiorly : Bool) (bits : ℕ → ℕ) {i j : ℕ} → i ≡ start_of (input_number start) → j ≡ end_of (input_number end) b.len.0
+      → Decided (λ capacity a. plain_form interiorly (not concat || wants_concat a.state.wants) (bits a.state.wants) start end a) b f s (settled b d) (acts_of d)
+      (Flaggable i j f s) (Flagged interiorly (search_level (read_level b.level) b.wants) (bits b.wants) i j)
+
 module _ {concat : Bool} {start end : Option InputPlace} {b : Buffer} {f s : List ℕ} {v : Decision} where
-  pub plain-unsound : sound b f s ≡ false → Turned Contradiction v → FlagsInput concat start end b f s v
+  plain-unsound : sound b f s ≡ false → Turned Contradiction v → FlagsInput concat start end b f s v
   plain-unsound h w = record { is = λ interiorly bits es' ee'. decided-unsound h w }
 
   module _ (h : sound b f s ≡ true) where
-    pub plain-spoiled : spoiled_phase b.phase ≡ true → Turned WrongPhase v → FlagsInput concat start end b f s v
+    plain-spoiled : spoiled_phase b.phase ≡ true → Turned WrongPhase v → FlagsInput concat start end b f s v
     plain-spoiled k w = record { is = λ interiorly bits es' ee'. decided-refused h (record { law = λ run other l. plain-in-spoiled interiorly _ _ start end _ (spoiled-of b run other ∙ k) }) w }
 
-    module _ {far idle : Bool} (p : spoiled_phase b.phase ≡ false) (ef : far ≡ too_far (input_number start) (input_number end)) (ei : idle ≡ (not (not concat || wants_concat b.wants) || far)) where
-      pub plain-idle : idle ≡ true → Leaves b false None v → FlagsInput concat start end b f s v
+    module _ {idle : Bool} (p : spoiled_phase b.phase ≡ false) (ei : idle ≡ (not (not concat || wants_concat b.wants) || too_far (input_number start) (input_number end))) where
+      plain-idle : idle ≡ true → Leaves b false None v → FlagsInput concat start end b f s v
       plain-idle k w = record {
         is = λ interiorly bits es' ee'. decided-accepted h (accepts None (near_same b) (λ run other l.
-            (plain-in-idle interiorly _ _ start end _ (spoiled-of b run other ∙ p) (idle-of b run other concat _ ef ei ∙ k), l.held))) w;
+            (plain-in-idle interiorly _ _ start end _ (spoiled-of b run other ∙ p) (idle-of b run other concat _ ei ∙ k), l.held))) w;
       }
 
       module _ {i j : ℕ} {out : Bool} (n : idle ≡ false) (es : i ≡ start_of (input_number start)) (ee : j ≡ end_of (input_number end) b.len.0) (eo : out ≡ (ltb j i || ltb i (gone_of b))) where
-        pub plain-outside : out ≡ true → Turned OutOfRange v → FlagsInput concat start end b f s v
+        plain-outside : out ≡ true → Turned OutOfRange v → FlagsInput concat start end b f s v
         plain-outside y w = record {
           is = λ interiorly bits es' ee'. decided-refused h (record {
             law = λ run other l.
-                plain-in-outside interiorly _ _ start end _ (spoiled-of b run other ∙ p) (idle-of b run other concat _ ef ei ∙ n) es (end-of end l.held p ee) (sym (gone-of b run other)) (sym eo ∙ y);
+                plain-in-outside interiorly _ _ start end _ (spoiled-of b run other ∙ p) (idle-of b run other concat _ ei ∙ n) es (end-of end l.held p ee) (sym (gone-of b run other)) (sym eo ∙ y);
           }) w;
         }
 
-        pub plain-ahead : out ≡ false → Leaves b true None v → FlagsInput concat start end b f s v
+        plain-ahead : out ≡ false → Leaves b true None v → FlagsInput concat start end b f s v
         plain-ahead y w = record {
           is = λ interiorly bits es' ee'. rw (es' ∙ sym es, ee' ∙ sym ee) (decided-does h (record {
             near = near_same b;
             none = λ c. absurd (false≢true (sym c));
             law = λ run other run' other' l lr lo act.
                 rw act.other-is (in-acts (plain-acts (mergeful end l.held p ee (sym eo ∙ y)) (bits b.wants) run' interiorly lr act.run_is)
-                (plain-in-flags interiorly _ _ start end _ (spoiled-of b run other ∙ p) (idle-of b run other concat _ ef ei ∙ n) es (end-of end l.held p ee) (sym (gone-of b run other)) (sym eo ∙ y)
+                (plain-in-flags interiorly _ _ start end _ (spoiled-of b run other ∙ p) (idle-of b run other concat _ ei ∙ n) es (end-of end l.held p ee) (sym (gone-of b run other)) (sym eo ∙ y)
                 ∙ ap (λ (x : ℕ). accepted (flag_plain interiorly (bits x) (i - gone_of b) (j - gone_of b) (account_of b run other))) (wants-of b run other)) refl);
           }) (λ c. flags-range (mergeful end (sound-held b f s h) p ee (sym eo ∙ y))) w);
         }
 
-module _ (wants : ℕ) where
-  pub tatweel-wanted : wants / 2 % 2 ≡ 1 → ◌≡◌ {A = ℕ} 4 (cond (wants_tatweel wants) 4 3)
-  tatweel-wanted h = rw (eq-eqb (wants / 2 % 2) 1 h)
+module _ {concat : Bool} {start end : Option InputPlace} {b : Buffer} {f s : List ℕ} {v : Decision} where
+  pub flags-input : {wrong idle out : Bool} {i j : ℕ} → wrong ≡ spoiled_phase b.phase → idle ≡ (not (not concat || wants_concat b.wants) || too_far (input_number start) (input_number end)) → i ≡ start_of (input_number start) → j ≡ end_of (input_number end) b.len.0
+      → out ≡ (ltb j i || ltb i (gone_of b)) → FlagVerdict b f s wrong idle out v → FlagsInput concat start end b f s v
+  flags-input ew ei es ee eo w =
+      by-tests w plain-unsound (λ h k. plain-spoiled h (sym ew ∙ k)) (λ h k. plain-idle h (sym ew ∙ k) ei) (λ h k n. plain-outside h (sym ew ∙ k) ei n es ee eo) (λ h k n. plain-ahead h (sym ew ∙ k) ei n es ee eo)
 
-  pub tatweel-unwanted : (wants / 2 % 2 ≡ 1 → ⊥) → ◌≡◌ {A = ℕ} 3 (cond (wants_tatweel wants) 4 3)
-  tatweel-unwanted h = rw (ne_eqb (wants / 2 % 2) 1 h)
+-- the bits are a number, whatever wants has
+pub plain_meets : {concat : Bool} {bits : ℕ} {start end : Option InputPlace} {b : Buffer} {f s : List ℕ} {r : Reply} {f' s' : List ℕ} → PlainMeets concat bits start end b f s r f' s'
+    → Meets (λ capacity a. plain_form (not concat) (not concat || wants_concat a.state.wants) bits start end a) b f s r f' s'
+plain_meets {bits = bits} w = w.is (λ n. bits) refl
+
+-- or what wants says of the tatweel
+pub tatweel_meets : {bits : ℕ} {start end : Option InputPlace} {b : Buffer} {f s : List ℕ} {r : Reply} {f' s' : List ℕ} → PlainMeets false bits start end b f s r f' s' → bits ≡ cond (wants_tatweel b.wants) 4 3
+    → Meets (λ capacity a. plain_form true true (cond (wants_tatweel a.state.wants) 4 3) start end a) b f s r f' s'
+tatweel_meets w e = w.is (λ n. cond (wants_tatweel n) 4 3) e
 
 -- for the proofs of functions
-pub ruleset flag_calls = (turned, soundness, tested, plain-unsound, plain-spoiled, plain-idle, plain-outside, plain-ahead)
-
-pub ruleset flag_tests = (tatweel-wanted, tatweel-unwanted)
+pub ruleset flag_verdicts = (turned, soundness, tested, flag-unsound, flag-wrong, flag-idle, flag-outside, flag-ahead)
 
 pub flaggable-turned : {i j : ℕ} {f s : List ℕ} → Flaggable i j f s → Flaggable i j s f
 flaggable-turned w = record { order = w.order; same = sym w.same; fits = omega (arith, w.same, w.fits) }

@@ -5,6 +5,7 @@ pub mod Chaining
 pub mod Charging
 pub mod DeleteCalls
 pub mod Deletions
+pub mod EachGroup
 pub mod EitherSlice
 pub mod Examples
 pub mod Executable

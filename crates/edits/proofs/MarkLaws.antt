@@ -3,6 +3,7 @@ use mathlib.Core.{Path.◌≡◌, Path.sym, Bool.Bool, Bool.true, Bool.false, Li
 use Rattle.std.proofs.Common.{ℕ, ◌-◌, ◌<◌, ◌≤◌, arith, le-ltb, lt-ltb}
 use lib.Seq.{slice}
 use Rattle.records.specs.{Glyphs.Glyph, Glyphs.flagged, Ranges.clusters, Ranges.edit}
+use Rattle.records.proofs.View.{glyphs-same}
 use Rattle.edits.specs.Flags.{interior, sought}
 use Rattle.edits.specs.inner.Marks.{flagged_run, flagged_part}
 use Rattle.edits.proofs.FlagLaws.{interior-empty, sought-empty}
@@ -42,3 +43,5 @@ module _ {interiorly : Bool} (level m bits s e : ℕ) (l : List (Glyph ℕ)) whe
 
 -- for the proofs of functions
 pub ruleset marking = (run-interior, run_short, run-all, sought-none, part-interior, part-none, part-all)
+
+pub ruleset out_marking = (glyphs-same)

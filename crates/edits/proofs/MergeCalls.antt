@@ -11,8 +11,8 @@ use Rattle.lists.specs.{declared.Buffer.Buffer, declared.Reply.Reply}
 use Rattle.lists.specs.{Account.read_level, Account.Account, Account.State, Account.output_phase, Account.spoiled_phase, Account.with_limits, Account.accepted, Account.Result, Contract.shown, Contract.gone_of, Contract.state_of, Contract.account_of, inner.Held.Held, inner.States.reply, inner.States.with_limits_of}
 use Rattle.lists.proofs.Sides.{MeetsIn}
 use Rattle.lists.proofs.{Accounts.len_of, Calls.in-accepted, Accounts.gone-of}
-use Rattle.edits.specs.{inner.Acts.Acts, inner.Acts.Mergeful, Flags.interior, Flags.search_level, Flags.sought, Flags.flag_interior, inner.Holding.holds, inner.Holding.cut, Merging.merged, Merging.graphemes_merge, Merging.outside_input, inner.Plans.Mergeable, inner.Plans.merge_plan, inner.Plans.merged_run, inner.Plans.merged_tail}
-use Rattle.edits.proofs.MergeForms.{InputRange, InputFrom, MergedApart, MergedWithin}
+use Rattle.edits.specs.{inner.Acts.Acts, inner.Acts.Mergeful, Flags.interior, Flags.search_level, Flags.sought, Flags.flag_interior, inner.Holding.holds, inner.Holding.cut, Merging.merged, Merging.graphemes_merge, Merging.outside_input, declared.Plan.Plan, inner.Plans.merge_plan, inner.Plans.merged_range, inner.Plans.merged_tail}
+use Rattle.edits.proofs.MergeForms.{Mergeable, InputRange, InputFrom, MergedApart, MergedWithin}
 use Rattle.lists.proofs.Outputs.{gone_in, shown-output}
 use Rattle.lists.proofs.Inner.{held-paid, limits-side}
 use Rattle.edits.proofs.MergeLaws.{mergeable, merged-within}
@@ -90,9 +90,9 @@ module _ (b : Buffer) (run other : List ℕ) where
 
 -- ---- in each phase that has lists
 module _ (run run' other : List ℕ) {gone idx len out_length s e : ℕ} (w : InputFrom gone idx len s) (low : out_length ≤ gone) where
-  shown-merged : (p : Phase) → spoiled_phase p ≡ false → Mergeable (glyphs run) (glyphs run) len out_length s e
-      → glyphs run' ≡ merged_run (merge_plan idx s e (cut len (glyphs run))) (merged_tail (merge_plan idx s e (cut len (glyphs run))) out_length (glyphs run)) → MergedWithin gone idx len out_length s e (shown p run other) (shown p run' other)
-  shown-merged p h v er = on-shown (λ x. MergedWithin gone idx len out_length s e (x run other) (x run' other)) p h (merged-within v w low er) (paired-within v (positions_in other) w low er)
+  shown-merged : (phase : Phase) → spoiled_phase phase ≡ false → Mergeable (glyphs run) (glyphs run) len out_length s e
+      → (p : Plan) → p ≡ merge_plan idx s e (cut len (glyphs run)) → glyphs run' ≡ merged_range p (merged_tail p out_length (glyphs run)) → MergedWithin gone idx len out_length s e (shown phase run other) (shown phase run' other)
+  shown-merged phase h v p ep er = on-shown (λ x. MergedWithin gone idx len out_length s e (x run other) (x run' other)) phase h (merged-within v w low p ep er) (paired-within v (positions_in other) w low p ep er)
 
   shown-flagged : (p : Phase) → spoiled_phase p ≡ false → InputRange (glyphs run) (glyphs run) len out_length s e → (bits : ℕ) (k : State) (level : ℕ) → 2 ≤ e - s → searching k ≡ level
       → glyphs run' ≡ interior level (sought level (slice s e (clusters (glyphs run)))) bits s e (glyphs run)
@@ -180,11 +180,11 @@ module _ {b : Buffer} {run other : List ℕ} {s e : ℕ} (v : Mergeful b s e run
         → account_of (with_limits_of (costs (e - s) b.limits) b) run' other' ≡ merged (s - gone_of b) (e - gone_of b) (account_of b run other)
     apart-is other' h m = rw (account-apart b (costs (e - s) b.limits) run' other' h, own-apart b run other h, state-paid b (e - s)) (m.account (state_of b))
 
-    module _ (h : (output_phase b.phase && b.have_separate_output) ≡ false) (two : 2 ≤ e - s) (eg : glyphs run' ≡ merged_run (merge_plan b.idx.0 s e (cut b.len.0 (glyphs run))) (merged_tail (merge_plan b.idx.0 s e (cut b.len.0 (glyphs run))) b.out_len.0 (glyphs run))) where
+    module _ (h : (output_phase b.phase && b.have_separate_output) ≡ false) (two : 2 ≤ e - s) (p : Plan) (ep : p ≡ merge_plan b.idx.0 s e (cut b.len.0 (glyphs run))) (eg : glyphs run' ≡ merged_range p (merged_tail p b.out_len.0 (glyphs run))) where
       pub within-is : account_of (with_limits_of (costs (e - s) b.limits) b) run' other ≡ merged (s - gone_of b) (e - gone_of b) (account_of b run other)
       within-is =
           let m : MergedWithin (gone_of b) b.idx.0 b.len.0 b.out_len.0 s e (shown b.phase run other) (shown b.phase run' other) =
-          shown-merged run run' other from-gone (out-low h) b.phase v.whole (ready-within two) eg in
+          shown-merged run run' other from-gone (out-low h) b.phase v.whole (ready-within two) p ep eg in
           rw (account-within b (costs (e - s) b.limits) run' other h v.held.none, own-within b run other h v.held.none, state-paid b (e - s)) (m.account (state_of b))
 
   pub width : e - gone_of b - (s - gone_of b) ≡ e - s

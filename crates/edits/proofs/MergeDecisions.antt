@@ -18,7 +18,7 @@ use Rattle.lists.proofs.Decisions.{near-limits, leaves-as, decided-unsound, deci
 use Rattle.lists.proofs.SoundLaws.{soundness}
 use Rattle.lists.proofs.Refusing.{refusing}
 use Rattle.records.proofs.Tests.{tested}
-use Rattle.edits.specs.{inner.Acts.Acts, inner.Acts.Mergeful, inner.Charges.running, inner.Charges.MergesRun, Flags.interior, Flags.search_level, Flags.sought, Merging.merge, Merging.merged, Merging.merge_input, Merging.outside_input, inner.Plans.WrittenApart, inner.Plans.WrittenWithin}
+use Rattle.edits.specs.{inner.Acts.Acts, inner.Acts.Mergeful, inner.Charges.running, inner.Charges.MergesRun, Flags.interior, Flags.search_level, Flags.sought, Merging.merge, Merging.merged, Merging.merge_input, Merging.outside_input, inner.Plans.Written}
 use Rattle.edits.specs.inner.MergeActs.{merge_limits, lies_apart, MergeRoom, Merges, MergesInput}
 use Rattle.edits.proofs.{Chaining.acts-as, MergeLaws.merged-apart, MergeLaws.merged-within, WholeInputs.whole-gone}
 use Rattle.edits.proofs.Charging.{limits-running}
@@ -73,11 +73,18 @@ module _ {b : Buffer} {run other : List ℕ} {s e : ℕ} (v : Mergeful b s e run
         → account_of (with_limits_of (costs (e - s) b.limits) b) run' other' ≡ merged (s - gone_of b) (e - gone_of b) (account_of b run other) → Merged run' other'
     costly h lr lo dr d q = (acts-paid v.held (merge merges (s - gone_of b) (e - gone_of b)) (e - s) (sym (limits-paid merges (e - s) b.limits h two refl)) refl lr lo dr d (q ∙ sym (way-merge (account_of b run other) h))).0
 
-    at-apart : {run' other' : List ℕ} → merges ≡ true → lies_apart b ≡ true → length run' ≡ length run → length other' ≡ length other → WrittenApart b.idx.0 b.len.0 b.out_len.0 s e (glyphs run) (glyphs other) (glyphs run') (glyphs other') → Merged run' other'
-    at-apart {run'} {other'} h a lr lo w = let m = merged-apart (ready-apart v two) (from-gone v) w in costly h lr lo m.behind m.out-behind (apart-is v run' other' a m)
-
-    at-within : {run' : List ℕ} → merges ≡ true → lies_apart b ≡ false → length run' ≡ length run → WrittenWithin b.idx.0 b.len.0 b.out_len.0 s e (glyphs run) (glyphs run') → Merged run' other
-    at-within {run'} h a lr w = let m = merged-within (ready-within v two) (from-gone v) (out-low v a) w.is in costly h lr refl m.behind refl (within-is v run' a two w.is)
+    at-written : {run' other' : List ℕ} → merges ≡ true → length run' ≡ length run → length other' ≡ length other → Written (lies_apart b) b.idx.0 b.len.0 b.out_len.0 s e run other run' other' → Merged run' other'
+    at-written {run'} {other'} h lr lo w = by (lies_apart b) refl
+      where
+        by : (x : Bool) → lies_apart b ≡ x → Merged run' other'
+        by true a =
+            let q = w.apart a in
+            let m = merged-apart (ready-apart v two) (from-gone v) w.p w.p-is q.0 q.1 in
+            costly h lr lo m.behind m.out-behind (apart-is v run' other' a m)
+        by false a =
+            let q = w.within a in
+            let m = merged-within (ready-within v two) (from-gone v) (out-low v a) w.p w.p-is q.0 in
+            rw q.1 (costly h lr refl m.behind refl (within-is v run' a two w.p w.p-is q.0))
 
 -- ---- the act
 module _ {apart merges : Bool} {level wants idx len out_length s e : ℕ} {run other : List ℕ} where
@@ -88,13 +95,10 @@ module _ {apart merges : Bool} {level wants idx len out_length s e : ℕ} {run o
   merges-far two h far = record { acts = λ b a v. at-over v merges two h far; apart-only = λ z. refl }
 
 module _ {apart merges : Bool} {level wants idx len out_length s e : ℕ} {run other run' other' : List ℕ} (two : 2 ≤ e - s) where
-  pub merges-apart : merges ≡ true → apart ≡ true → length run' ≡ length run → length other' ≡ length other → WrittenApart idx len out_length s e (glyphs run) (glyphs other) (glyphs run') (glyphs other') → Merges apart merges level wants idx len out_length s e run other run' other'
-  merges-apart h k lr lo w = record { acts = λ b a v. at-apart v merges two h (a ∙ k) lr lo w; apart-only = λ z. absurd (false≢true (sym z ∙ k)) }
+  pub merges-written : merges ≡ true → length run' ≡ length run → length other' ≡ length other → Written apart idx len out_length s e run other run' other' → Merges apart merges level wants idx len out_length s e run other run' other'
+  merges-written h lr lo w = record { acts = λ b a v. at-written v merges two h lr lo (rw a w); apart-only = λ z. (w.within z).1 }
 
 module _ {apart merges : Bool} {level wants idx len out_length s e : ℕ} {run other run' : List ℕ} (two : 2 ≤ e - s) where
-  pub merges-within : merges ≡ true → apart ≡ false → length run' ≡ length run → WrittenWithin idx len out_length s e (glyphs run) (glyphs run') → Merges apart merges level wants idx len out_length s e run other run' other
-  merges-within h k lr w = record { acts = λ b a v. at-within v merges two h (a ∙ k) lr w; apart-only = λ z. refl }
-
   pub merges-flags : {search : ℕ} → search ≡ search_level (read_level level) wants → merges ≡ false → e - s ≤ 255 → length run' ≡ length run → glyphs run' ≡ interior search (sought search (slice s e (clusters (glyphs run)))) 3 s e (glyphs run) → Merges apart merges level wants idx len out_length s e run other run' other
   merges-flags es h near lr eg = record { acts = λ b a v. at_flag v merges two h near lr (rw es at eg); apart-only = λ z. refl }
 
@@ -173,4 +177,4 @@ merge-turned w = record { order = w.order; end = w.end; fits = omega (arith, w.f
 -- for the proofs of functions
 pub ruleset merge_calls = (turned, soundness, tested, outside-ordered, merge-unsound, merge-spoiled, merge-outside, merge-goes, merge-room)
 
-pub ruleset merge_acting = (limits-paid, limits-few, limits-free, merges-few, merges-far, merges-apart, merges-within, merges-flags, run-merges, run-few, leaves-paid)
+pub ruleset merge_acting = (limits-paid, limits-few, limits-free, merges-few, merges-far, merges-written, merges-flags, run-merges, run-few, leaves-paid)

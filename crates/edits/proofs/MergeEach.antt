@@ -12,8 +12,8 @@ use Rattle.lists.specs.{Account.read_level, Account.Account, Account.input, Acco
 use Rattle.lists.proofs.{Accounts.level-of, Infos.words-drop, Infos.words-edit}
 use Rattle.lists.proofs.Refusing.{refusing}
 use Rattle.edits.specs.{inner.Acts.Acts, inner.Charges.DecidedBy, inner.Charges.running, inner.Charges.MergesRun, inner.Charges.MergesEach, inner.Charges.TakesKeyed, Flags.interior, Flags.sought, Flags.flag_interior, Groups.group_sizes, Groups.continues, Groups.merged_each, Groups.form_clusters, Merging.merge, Merging.merged, Merging.merge_start, Merging.merge_end, Merging.graphemes_merge, inner.MergeActs.merge_limits, inner.MergeActs.MergeRoom, WholeRun.not_whole, inner.Wholes.WholeInput, inner.Wholes.RunRoom}
-use Rattle.edits.specs.inner.Reversals.{Group}
-use Rattle.edits.proofs.{Chaining.acts-as, Chaining.acts-then, Searching.searching, Charging.OnKeyed, Charging.charges-acts, Charging.settles-left, Charging.keyed-decided, Charging.whole-after, MergeCalls.in-acts, MergeLaws.merge-order, WholeCalls.whole_room, WholeCalls.room-lengths, WholeInputs.account-whole, WholeInputs.not-not-whole, GroupLaws.no-group, GroupLaws.grapheme-group, GroupLaws.graphemes-same}
+use Rattle.edits.specs.inner.Reversals.{Group, EndsGroup}
+use Rattle.edits.proofs.{Chaining.acts-as, Chaining.acts-then, Searching.searching, Charging.OnKeyed, Charging.charges-acts, Charging.settles-left, Charging.keyed-decided, Charging.whole-after, MergeCalls.in-acts, MergeLaws.merge-order, WholeCalls.whole_room, WholeCalls.room-lengths, WholeInputs.account-whole, WholeInputs.not-not-whole, GroupLaws.no-group, GroupLaws.graphemes-same}
 
 -- ---- the edits
 module _ {G : Type 0} (slot mask : ℕ) where
@@ -139,13 +139,19 @@ module _ {merges : Bool} {slot mask level wants n : ℕ} {l₀ : Limits} {run₀
   }
 
   module _ {l : Limits} {run other : List ℕ} {s : ℕ} (v : EachOf merges slot mask level wants n l₀ run₀ other₀ l run other s) where
-    module _ {e : ℕ} (o : s < n) (ee : e ≡ s + 1 + heads (isnt 0) (slice (s + 1) n (map (key slot mask) (infos (glyphs run))))) where
+    pub each-fits : n ≤ length (glyphs run)
+    each-fits = v.room.fits
+
+    module _ {e : ℕ} (w : EndsGroup (continues slot mask) run s n e) where
       -- whatever the phase
       inside : Group (continues slot mask) (shown Plain run other) n s e
-      inside = grapheme-group Plain run other refl v.room.fits slot mask o ee
+      inside = w.is Plain other refl
+
+      pub each-order : s ≤ e
+      each-order = omega (arith, inside.after)
 
       pub each-merge : MergeRoom n 0 s e run other
-      each-merge = record { order = omega (arith, inside.after); end = inside.inside; fits = v.room.fits; out-fits = omega arith; same = glyphs-same run other v.room.same }
+      each-merge = record { order = each-order; end = inside.inside; fits = v.room.fits; out-fits = omega arith; same = glyphs-same run other v.room.same }
 
       pub each-less : n - e < n - s
       each-less = omega (arith, inside.after, inside.inside)
@@ -156,9 +162,9 @@ module _ {merges : Bool} {slot mask level wants n : ℕ} {l₀ : Limits} {run₀
         same-run = lr ∙ v.same-run;
         same-other = lo ∙ v.same-other;
         high = inside.inside;
-        each = λ b w.
-            let u = v.each b w in
-            one-more u v.same-run v.same-other lr lo (grapheme-group b.phase run other u.whole.clean v.room.fits slot mask o ee) (rw el ((c.is l).acts b u.whole));
+        each = λ b h.
+            let u = v.each b h in
+            one-more u v.same-run v.same-other lr lo (w.is b.phase other u.whole.clean) (rw el ((c.is l).acts b u.whole));
       }
 
     pub each-done : n ≤ s → MergesEach merges level wants n slot mask l₀ l run₀ other₀ run other
@@ -194,4 +200,4 @@ module _ {slot : ℕ} (mask : ℕ) {b : Buffer} {merging : Bool} (em : merging �
   form-decided w = keyed-decided form-on w
 
 -- for the proofs of functions
-pub ruleset merging_each = (each_none, each-merge, each-less, each_more, each-done)
+pub ruleset merging_each = (each_none, each-fits, each-done)

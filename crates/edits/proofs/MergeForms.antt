@@ -14,6 +14,13 @@ pub record InputRange (run out : List (Glyph ℕ)) (len out_length s e : ℕ) : 
   pub fits : len ≤ length run
   pub out-fits : out_length ≤ length out
 
+-- s..e is a range of the run, of at least one glyph
+pub record Mergeable (run out : List (Glyph ℕ)) (len out_length s e : ℕ) : Type 0 where
+  pub order : s < e
+  pub end : e ≤ len
+  pub fits : len ≤ length run
+  pub out-fits : out_length ≤ length out
+
 -- the input goes from place `gone` to place `len` of the run, the cursor is at idx, and s is in the input
 pub record InputFrom (gone idx len s : ℕ) : Type 0 where
   pub cursor : gone ≤ idx

@@ -1,18 +1,24 @@
 -- A merge in the input: from edits of whole slices to the account that they hold.
-use mathlib.Core.{Path.◌≡◌, Path.refl, Path.ap, Path.◌∙◌, Bool.Bool, Bool.true, Bool.false, Bool.cond, List.List}
+use mathlib.Core.{Path.◌≡◌, Path.refl, Path.ap, Path.sym, Path.◌∙◌, Bool.Bool, Bool.true, Bool.false, Bool.cond, Bool.not, Bool.◌&&◌, List.List}
 use Rattle.std.proofs.Common.{ℕ, ◌+◌, ◌-◌, ◌<◌, ◌≤◌, eqb, length, take, drop, le_refl, arith, length-drop, length-take-le, drop-drop, eq-eqb, ne_eqb, eqb-true}
 use lib.Seq.{slice, length-slice}
 use borrow.Author.Tests.{eqb-false}
 use Rattle.records.specs.{Glyphs.Glyph, Glyphs.Info, Glyphs.set_cluster, Ranges.edit, Ranges.is, Ranges.least, Ranges.first_cluster, Ranges.last_cluster, Ranges.heads, Ranges.tails, Ranges.clusters}
-use Rattle.records.proofs.View.{length-clusters}
+use Rattle.records.specs.View.{glyphs}
+use Rattle.records.proofs.View.{length-clusters, glyphs-same}
+use Rattle.std.specs.Prelude.{Option, None, Some}
+use Rattle.std.specs.Bool.{then_some}
 use Rattle.records.proofs.Edited.{edit-take, edit-take-before, edit-drop-behind}
+use Rattle.lists.specs.inner.Verdicts.{Sided}
 use Rattle.lists.specs.Account.{Account, State, input}
+use Rattle.lists.proofs.Editing.{edit-empty}
 use Rattle.lists.proofs.Runs.{heads-le, tails-le}
-use Rattle.edits.specs.declared.Merge.{Merge}
+use Rattle.edits.specs.declared.Plan.{Plan}
 use Rattle.edits.specs.Merging.{merge_start, merge_end, merge_tail, merged}
 use Rattle.edits.specs.inner.Holding.{holds, paid, cut}
-use Rattle.edits.specs.inner.Plans.{Mergeable, WrittenApart, WrittenWithin, merge_plan, tail_start, merged_run, merged_tail}
-use Rattle.edits.proofs.MergeForms.{InputRange, InputFrom, MergedApart, MergedWithin}
+use Rattle.edits.specs.inner.Plans.{Written, Tailed, merge_plan, tail_start, merged_range, merged_tail}
+use Rattle.edits.specs.inner.MergeActs.{MergeRoom}
+use Rattle.edits.proofs.MergeForms.{Mergeable, InputRange, InputFrom, MergedApart, MergedWithin}
 use Rattle.edits.proofs.Holding.{slice-shift, length-slice-le}
 use Rattle.edits.proofs.Bridge.{input-is, input-clusters, done-is, done-clusters, holds-paying, input-edit, input-kept}
 
@@ -74,19 +80,10 @@ end-most s e cs o =
     pick true t h = omega arith
     pick false t h = omega arith
 
-pub tail-most : (b : Bool) (c n : ℕ) (ds : List ℕ) → tail_start b c ds n ≤ n
+pub tail-most : (c : Option ℕ) (n : ℕ) (ds : List ℕ) → tail_start c ds n ≤ n
 unfolding tail_start
-tail-most true c n ds = omega arith
-tail-most false c n ds = omega arith
-
-module _ (t : Bool) (c n : ℕ) (ds : List ℕ) where
-  pub tail-some : {at : ℕ} → t ≡ true → at ≡ n - tails (is c) ds → at ≡ tail_start t c ds n
-  unfolding tail_start
-  tail-some h e = rw h e
-
-  pub tail_none : t ≡ false → n ≡ tail_start t c ds n
-  unfolding tail_start
-  tail_none h = rw h
+tail-most None n ds = omega arith
+tail-most (Some c) n ds = omega arith
 
 -- a test of two places, counted from another
 eqb-shift : (g a b : ℕ) → g ≤ b → eqb (g + a) b ≡ eqb a (b - g)
@@ -107,14 +104,14 @@ pub mergeable : {run out : List (Glyph ℕ)} {len out_length s e : ℕ} → Inpu
 mergeable v o = record { order = o; end = v.end; fits = v.fits; out-fits = v.out-fits }
 
 -- the places of a merge lie in their lists
-module _ {run out : List (Glyph ℕ)} {len out_length s e : ℕ} (v : Mergeable run out len out_length s e) (idx : ℕ) (p : Merge) (ep : p ≡ merge_plan idx s e (cut len run)) where
+module _ {run out : List (Glyph ℕ)} {len out_length s e : ℕ} (v : Mergeable run out len out_length s e) (idx : ℕ) (p : Plan) (ep : p ≡ merge_plan idx s e (cut len run)) where
   pub plan-order : (p.from ≤ p.to) × (p.to ≤ len)
   unfolding merge_plan
   plan-order =
       let X : List ℕ = cut len run in
       let n : length X ≡ len = length-take-le len (clusters run) (rw (length-clusters run) v.fits) in
-      let ef : p.from ≡ merge_start idx s e X = ap (λ (q : Merge). q.from) ep in
-      let et : p.to ≡ merge_end s e X = ap (λ (q : Merge). q.to) ep in
+      let ef : p.from ≡ merge_start idx s e X = ap (λ (q : Plan). q.from) ep in
+      let et : p.to ≡ merge_end s e X = ap (λ (q : Plan). q.to) ep in
       let o : s < e = v.order in
       let l : e ≤ len = v.end in
       (omega (arith, start-most idx s e X, end-least s e X), omega (arith, end-most s e X (omega arith)))
@@ -123,7 +120,7 @@ module _ {run out : List (Glyph ℕ)} {len out_length s e : ℕ} (v : Mergeable 
   unfolding merge_plan
   plan-from gone w =
       let X : List ℕ = cut len run in
-      let ef : p.from ≡ merge_start idx s e X = ap (λ (q : Merge). q.from) ep in
+      let ef : p.from ≡ merge_start idx s e X = ap (λ (q : Plan). q.from) ep in
       omega (arith, start-shift gone idx s e X w.cursor w.start v.order)
 
 module _ {run out : List (Glyph ℕ)} {gone idx len out_length s e : ℕ} (v : Mergeable run out len out_length s e) (w : InputFrom gone idx len s) where
@@ -131,12 +128,18 @@ module _ {run out : List (Glyph ℕ)} {gone idx len out_length s e : ℕ} (v : M
   unfolding holds
   cursor-is k = let o : idx ≤ len = w.inside in let f : len ≤ length run = v.fits in length-slice gone idx run (omega arith)
 
+  -- by the test of the plan
+  tail-by : (t : Bool) (c n : ℕ) (ds : List ℕ) → tail_start (then_some t c) ds n ≡ cond t (n - tails (is c) ds) n
+  unfolding tail_start
+  tail-by true c n ds = refl
+  tail-by false c n ds = refl
+
   -- what is held after a merge, from the part of the run that is input and from the output
-  merged-holds : (run' out' : List (Glyph ℕ)) (p : Merge) → p ≡ merge_plan idx s e (cut len run)
+  merged-holds : (run' out' : List (Glyph ℕ)) (p : Plan) → p ≡ merge_plan idx s e (cut len run)
       → slice gone len run' ≡ edit (p.from - gone) (p.to - gone) (set_cluster p.lowest 0) (slice gone len run)
-      → take out_length out' ≡ edit (tail_start p.tail p.leader (cut out_length out) out_length) out_length (set_cluster p.lowest 0) (take out_length out)
+      → take out_length out' ≡ edit (tail_start p.along (cut out_length out) out_length) out_length (set_cluster p.lowest 0) (take out_length out)
       → (k : State) → holds run' out' gone idx len out_length (paid (e - s) k) ≡ merged (s - gone) (e - gone) (holds run out gone idx len out_length k)
-  unfolding merge_plan tail_start merge_tail merged
+  unfolding merge_plan merge_tail merged
   merged-holds run' out' p ep er eo k =
       let cursor : gone ≤ idx = w.cursor in
       let inside : idx ≤ len = w.inside in
@@ -160,19 +163,22 @@ module _ {run out : List (Glyph ℕ)} {gone idx len out_length s e : ℕ} (v : M
       let E-sub : merge_end s e X - gone ≡ merge_end (s - gone) (e - gone) Y = sub_of gone _ _ E-is in
       let test : eqb (merge_start idx s e X) idx ≡ eqb (merge_start (idx - gone) (s - gone) (e - gone) Y) (idx - gone) =
       ap (λ (n : ℕ). eqb n idx) S-is ∙ eqb-shift gone _ idx cursor in
+      let r : List ℕ = slice s e X in
+      let tail-is : tail_start p.along (cut out_length out) out_length ≡ cond (eqb (merge_start idx s e X) idx && not (eqb (first_cluster r) (least r))) (out_length - tails (is (first_cluster r)) (cut out_length out)) out_length =
+      ap (λ (q : Plan). tail_start q.along (cut out_length out) out_length) ep ∙ tail-by _ _ _ _ in
       let cost : e - gone - (s - gone) ≡ e - s = cost-shift gone s e start order in
       rw cost
       (holds-paying run out gone idx len out_length k cursor inside fits (e - s) run' out' _ _
       (er ∙ rw (ep, S-sub, E-sub, r-is, cs-is, in_is, k-is))
-      (eo ∙ rw (ep, ds-is, cs-is, d-is, k-is, n-is, dn-is, r-is, test)))
+      (eo ∙ rw (tail-is, ep, ds-is, cs-is, d-is, k-is, n-is, dn-is, r-is, test)))
 
-  planned-apart : {run' out' : List (Glyph ℕ)} (p : Merge) → p ≡ merge_plan idx s e (cut len run) → (at : ℕ) → at ≡ tail_start p.tail p.leader (cut out_length out) out_length
+  planned-apart : {run' out' : List (Glyph ℕ)} (p : Plan) → p ≡ merge_plan idx s e (cut len run) → (at : ℕ) → at ≡ tail_start p.along (cut out_length out) out_length
       → out' ≡ edit at out_length (set_cluster p.lowest 0) out → run' ≡ edit p.from p.to (set_cluster p.lowest 0) run → MergedApart gone idx len out_length s e run out run' out'
   planned-apart {run'} {out'} p ep at ea eo er =
       let h : Info → Info = set_cluster p.lowest 0 in
       let o = plan-order v idx p ep in
       let above : gone ≤ p.from = plan-from v idx p ep gone w in
-      let t : at ≤ out_length = rw ea (tail-most p.tail p.leader out_length (cut out_length out)) in
+      let t : at ≤ out_length = rw ea (tail-most p.along out_length (cut out_length out)) in
       record {
         account =
             merged-holds run' out' p ep
@@ -184,18 +190,18 @@ module _ {run out : List (Glyph ℕ)} {gone idx len out_length s e : ℕ} (v : M
       }
 
   -- THE LAW of a merge with the output apart: of any two lists
-  pub merged-apart : {run' out' : List (Glyph ℕ)} → WrittenApart idx len out_length s e run out run' out' → MergedApart gone idx len out_length s e run out run' out'
-  unfolding merged_run merged_tail
-  merged-apart q = planned-apart _ refl _ refl q.out-is q.run_is
+  pub merged-apart : {run' out' : List (Glyph ℕ)} (p : Plan) → p ≡ merge_plan idx s e (cut len run) → run' ≡ merged_range p run → out' ≡ merged_tail p out_length out → MergedApart gone idx len out_length s e run out run' out'
+  unfolding merged_range merged_tail
+  merged-apart p ep er eo = planned-apart p ep _ refl eo er
 
 module _ {run : List (Glyph ℕ)} {gone idx len out_length s e : ℕ} (v : Mergeable run run len out_length s e) (w : InputFrom gone idx len s) (low : out_length ≤ gone) where
-  planned-within : {mid run' : List (Glyph ℕ)} (p : Merge) → p ≡ merge_plan idx s e (cut len run) → (at : ℕ) → at ≡ tail_start p.tail p.leader (cut out_length run) out_length
+  planned-within : {mid run' : List (Glyph ℕ)} (p : Plan) → p ≡ merge_plan idx s e (cut len run) → (at : ℕ) → at ≡ tail_start p.along (cut out_length run) out_length
       → mid ≡ edit at out_length (set_cluster p.lowest 0) run → run' ≡ edit p.from p.to (set_cluster p.lowest 0) mid → MergedWithin gone idx len out_length s e run run'
   planned-within {mid} {run'} p ep at ea em er =
       let h : Info → Info = set_cluster p.lowest 0 in
       let o = plan-order v idx p ep in
       let above : gone ≤ p.from = plan-from v idx p ep gone w in
-      let t : at ≤ out_length = rw ea (tail-most p.tail p.leader out_length (cut out_length run)) in
+      let t : at ≤ out_length = rw ea (tail-most p.along out_length (cut out_length run)) in
       let from : p.from ≤ p.to = o.0 in
       let to : p.to ≤ len = o.1 in
       let in_len : gone ≤ len = omega (arith, w.cursor, w.inside) in
@@ -214,31 +220,39 @@ module _ {run : List (Glyph ℕ)} {gone idx len out_length s e : ℕ} (v : Merge
       }
 
   -- THE LAW of a merge with the output in the run, or without: of any list
-  pub merged-within : {run' : List (Glyph ℕ)} → run' ≡ merged_run (merge_plan idx s e (cut len run)) (merged_tail (merge_plan idx s e (cut len run)) out_length run) → MergedWithin gone idx len out_length s e run run'
-  unfolding merged_run merged_tail
-  merged-within er = planned-within _ refl _ refl refl er
+  pub merged-within : {run' : List (Glyph ℕ)} (p : Plan) → p ≡ merge_plan idx s e (cut len run) → run' ≡ merged_range p (merged_tail p out_length run) → MergedWithin gone idx len out_length s e run run'
+  unfolding merged_range merged_tail
+  merged-within p ep er = planned-within p ep _ refl refl er
 
 -- ---- what the functions write
-pub written_apart : {run out run' out' : List (Glyph ℕ)} {idx len out_length s e at : ℕ} {p : Merge} → p ≡ merge_plan idx s e (cut len run) → at ≡ tail_start p.tail p.leader (cut out_length out) out_length
-    → out' ≡ edit at out_length (set_cluster p.lowest 0) out → run' ≡ edit p.from p.to (set_cluster p.lowest 0) run → WrittenApart idx len out_length s e run out run' out'
-unfolding merged_run merged_tail
-written_apart ep ea eo er = record { run_is = rw (← ep) er; out-is = rw (← ep, ← ea) eo }
+module _ (p : Plan) (n : ℕ) where
+  pub tail-some : {c : ℕ} (out : List (Glyph ℕ)) {out' : List (Glyph ℕ)} → p.along ≡ Some c → out' ≡ edit (n - tails (is c) (cut n out)) n (set_cluster p.lowest 0) out → out' ≡ merged_tail p n out
+  unfolding merged_tail tail_start
+  tail-some out h eo = rw h eo
 
-pub written-within : {run mid run' : List (Glyph ℕ)} {idx len out_length s e at : ℕ} {p : Merge} → p ≡ merge_plan idx s e (cut len run) → at ≡ tail_start p.tail p.leader (cut out_length run) out_length
-    → mid ≡ edit at out_length (set_cluster p.lowest 0) run → run' ≡ edit p.from p.to (set_cluster p.lowest 0) mid → WrittenWithin idx len out_length s e run run'
-unfolding merged_run merged_tail
-written-within ep ea em er = record { is = rw (← ep, ← ea, ← em) er }
+  tail_none : (out : List (Glyph ℕ)) → p.along ≡ None → out ≡ merged_tail p n out
+  unfolding merged_tail tail_start
+  tail_none out h = rw h (sym (edit-empty (set_cluster p.lowest 0) n out))
 
--- where they write
-pub tail-room : (t : Bool) (c : ℕ) (ds : List ℕ) {out_length at : ℕ} → at ≡ tail_start t c ds out_length → at ≤ out_length
-tail-room t c ds {out_length} ea = rw ea (tail-most t c out_length ds)
+  pub tail-left : (separate : Bool) (run other : List ℕ) → p.along ≡ None → Sided separate (Tailed p n) run other run other
+  tail-left separate run other h = record { first = λ k. record { is = tail_none (glyphs run) h; rest-is = refl }; second = λ k. record { is = tail_none (glyphs other) h; rest-is = refl } }
 
-module _ {run out : List (Glyph ℕ)} {len out_length s e : ℕ} (idx : ℕ) {p : Merge} (v : Mergeable run out len out_length s e) (ep : p ≡ merge_plan idx s e (cut len run)) where
-  pub run-order : p.from ≤ p.to
-  run-order = (plan-order v idx p ep).0
+module _ {run other : List ℕ} {len out_length s e : ℕ} (idx : ℕ) {p : Plan} (w : (s < e) × MergeRoom len out_length s e run other) (ep : p ≡ merge_plan idx s e (cut len (glyphs run))) where
+  ready : Mergeable (glyphs run) (glyphs run) len out_length s e
+  ready = let v = w.1 in record { order = w.0; end = v.end; fits = v.fits; out-fits = v.out-fits }
 
-  pub run_room : (run' : List (Glyph ℕ)) → length run' ≡ length run → p.to ≤ length run'
-  run_room run' same = omega (arith, (plan-order v idx p ep).1, v.fits)
+  pub run_room : (run' : List ℕ) → length run' ≡ length run → (p.from ≤ p.to) × (p.to ≤ length (glyphs run'))
+  run_room run' same = let o = plan-order ready idx p ep in (o.0, omega (arith, o.1, ready.fits, glyphs-same run' run same))
+
+pub written : {separate : Bool} {idx len out_length s e : ℕ} {run other run₁ run' other' : List ℕ} {p : Plan} → p ≡ merge_plan idx s e (cut len (glyphs run)) → Sided separate (Tailed p out_length) run other run₁ other'
+    → glyphs run' ≡ edit p.from p.to (set_cluster p.lowest 0) (glyphs run₁) → Written separate idx len out_length s e run other run' other'
+unfolding merged_range
+written {p = p} ep w er = record {
+  p = p;
+  p-is = ep;
+  apart = λ k. let q = w.second k in (rw (← q.rest-is) er, q.is);
+  within = λ k. let q = w.first k in (er ∙ ap (edit p.from p.to (set_cluster p.lowest 0)) q.is, q.rest-is);
+}
 
 -- for the proofs of functions
-pub ruleset merging = (tail-some, tail_none, written_apart, written-within, tail-room, run-order, run_room)
+pub ruleset merging = (tail-left)

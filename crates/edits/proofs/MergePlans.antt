@@ -1,11 +1,13 @@
 -- What a merge finds in the clusters of a run, from what its loops say.
-use mathlib.Core.{Path.refl, Path.◌≡◌, Path.ap, Path.sym, Path.◌∙◌, Bool.Bool, Bool.false, Bool.not, Bool.◌&&◌, List.List, List.[], List.◌∷◌, List.◌++◌, List.reverse-append}
+use mathlib.Core.{Path.◌≡◌, Path.ap, Path.sym, Path.◌∙◌, Bool.false, Bool.not, Bool.◌&&◌, List.List, List.[], List.◌∷◌, List.◌++◌, List.reverse-append}
 use Rattle.std.proofs.Common.{ℕ, suc, ◌+◌, ◌-◌, ◌<◌, ◌≤◌, eqb, length, get_or, take, arith, eq-eqb, ne_eqb}
 use lib.Seq.{slice, slice-cons}
 use Rattle.records.specs.{Glyphs.Glyph, Ranges.is, Ranges.least, Ranges.first_cluster, Ranges.last_cluster, Ranges.heads, Ranges.tails, Ranges.clusters}
 use Rattle.records.proofs.View.{length-clusters}
 use Rattle.lists.proofs.Runs.{slice-last}
-use Rattle.edits.specs.declared.Merge.{Merge}
+use Rattle.std.specs.Prelude.{Option}
+use Rattle.std.specs.Bool.{then_some}
+use Rattle.edits.specs.declared.Plan.{Plan}
 use Rattle.edits.specs.Merging.{merge_start, merge_end}
 use Rattle.edits.specs.inner.Plans.{MergeRange, merge_plan}
 use Rattle.edits.proofs.Holding.{slice-take}
@@ -59,20 +61,20 @@ module _ {l : List (Glyph ℕ)} {len s e m : ℕ} (v : MergeRange l len s e m) w
       rw (slice-take idx s len (clusters l) (omega arith), range-is, first-is, ← v.lowest, t, ← ec) er
 
 module _ (l : List (Glyph ℕ)) {len s e : ℕ} (order : s < e) (inside : e ≤ len) (fits : len ≤ length l) where
-  planned : (idx : ℕ) {c m from to : ℕ} {b : Bool} → m ≡ least (slice s e (clusters l)) → c ≡ get_or (clusters l) s 4294967295 → from ≡ merge_start idx s e (take len (clusters l)) → to ≡ merge_end s e (take len (clusters l))
-      → b ≡ eqb from idx && not (eqb c m) → ◌≡◌ {A = Merge} (record { lowest = m; leader = c; from = from; to = to; tail = b }) (merge_plan idx s e (take len (clusters l)))
+  planned : (idx : ℕ) {c m from to : ℕ} {a : Option ℕ} → m ≡ least (slice s e (clusters l)) → c ≡ get_or (clusters l) s 4294967295 → from ≡ merge_start idx s e (take len (clusters l)) → to ≡ merge_end s e (take len (clusters l))
+      → a ≡ then_some (eqb from idx && not (eqb c m)) c → ◌≡◌ {A = Plan} (record { lowest = m; from = from; to = to; along = a }) (merge_plan idx s e (take len (clusters l)))
   unfolding merge_plan
-  planned idx {c} {m} {from} {to} {b} em ec ef et eb =
+  planned idx {c} {m} {from} {to} {a} em ec ef et ea =
       let v : MergeRange l len s e m = record { order = order; inside = inside; fits = fits; lowest = em } in
-      rw (range-is v, first-is v, ← em, ← ec, ← ef, ← et, ← eb)
+      rw (range-is v, first-is v, ← em, ← ec, ← ef, ← et, ← ea)
 
   -- by the first of the two tests
-  module _ (idx : ℕ) {c m from to : ℕ} (em : m ≡ least (slice s e (clusters l))) (ec : c ≡ get_or (clusters l) s 4294967295) (ef : from ≡ merge_start idx s e (take len (clusters l))) (et : to ≡ merge_end s e (take len (clusters l))) where
-    pub planned-at : from ≡ idx → ◌≡◌ {A = Merge} (record { lowest = m; leader = c; from = from; to = to; tail = not (eqb c m) }) (merge_plan idx s e (take len (clusters l)))
-    planned-at h = planned idx em ec ef et (rw (eq-eqb from idx h) refl)
+  module _ (idx : ℕ) {c m from to : ℕ} {a : Option ℕ} (em : m ≡ least (slice s e (clusters l))) (ec : c ≡ get_or (clusters l) s 4294967295) (ef : from ≡ merge_start idx s e (take len (clusters l))) (et : to ≡ merge_end s e (take len (clusters l))) where
+    pub planned-at : from ≡ idx → a ≡ then_some (not (eqb c m)) c → ◌≡◌ {A = Plan} (record { lowest = m; from = from; to = to; along = a }) (merge_plan idx s e (take len (clusters l)))
+    planned-at h ea = planned idx em ec ef et (rw (eq-eqb from idx h) ea)
 
-    pub planned-past : (from ≡ idx → ⊥) → ◌≡◌ {A = Merge} (record { lowest = m; leader = c; from = from; to = to; tail = eqb from idx }) (merge_plan idx s e (take len (clusters l)))
-    planned-past h = planned idx em ec ef et (rw (ne_eqb from idx h) refl)
+    pub planned-past : (from ≡ idx → ⊥) → a ≡ then_some (eqb from idx) c → ◌≡◌ {A = Plan} (record { lowest = m; from = from; to = to; along = a }) (merge_plan idx s e (take len (clusters l)))
+    planned-past h ea = planned idx em ec ef et (rw (ne_eqb from idx h) (rw (ne_eqb from idx h) at ea))
 
 -- for the proofs of functions
 pub ruleset planning = (end_same, end_more, start-same, start-more, planned-at, planned-past)

@@ -17,13 +17,12 @@ use Rattle.lists.proofs.SoundLaws.{soundness}
 use Rattle.lists.proofs.Refusing.{refusing}
 use Rattle.records.proofs.Tests.{tested}
 use Rattle.lists.proofs.Changed.{own-limits, state-own, state-paid}
-use Rattle.edits.specs.declared.OutMerge.{OutMerge}
-use Rattle.edits.specs.{inner.Acts.Acts, inner.Acts.OutMergeful, inner.Holding.holds, inner.Holding.cut, Merging.merge_out, Merging.merged_out, Merging.merge_done, inner.Plans.out_plan, inner.Plans.OutWritable, inner.Plans.WrittenOutApart, inner.Plans.WrittenOutWithin}
+use Rattle.edits.specs.{inner.Acts.Acts, inner.Acts.OutMergeful, inner.Holding.holds, Merging.merge_out, Merging.merged_out, Merging.merge_done, inner.Plans.OutWritten}
 use Rattle.edits.proofs.MergeForms.{OutMergeable}
 use Rattle.edits.specs.inner.MergeActs.{merge_limits, OutMergeRoom, OutMerges, MergesDone}
 use Rattle.edits.proofs.MergeCalls.{account-apart, account-within, acts-paid, acts-kept, in-acts}
 use Rattle.edits.proofs.MergeDecisions.{limits-paid, limits-few, limits-free}
-use Rattle.edits.proofs.OutMerges.{merged-out-apart, merged-out-within, out-writable}
+use Rattle.edits.proofs.OutMerges.{merged-out-apart, merged-out-within}
 
 both_is : (x y z : Bool) → x ≡ true → y ≡ z → (x && y) ≡ z
 both_is x y z h k = rw h k
@@ -75,18 +74,19 @@ module _ {b : Buffer} {run other : List ℕ} {s e : ℕ} (v : OutMergeful b s e 
         → account_of (with_limits_of (costs (e - s) b.limits) b) run' other' ≡ merged_out s e (account_of b run other) → Merged run' other'
     costly lr lo dr d q = (acts-paid v.held (merge_out merges s e) (e - s) (sym (limits-paid merges (e - s) b.limits h two refl)) refl lr lo dr d (q ∙ sym (way_out (account_of b run other)))).0
 
-    at-apart : {p : OutMerge} {run' other' : List ℕ} → b.have_separate_output ≡ true → length run' ≡ length run → length other' ≡ length other → p ≡ out_plan s e (cut b.out_len.0 (glyphs other))
-        → WrittenOutApart p b.idx.0 b.len.0 (glyphs run) (glyphs other) (glyphs run') (glyphs other') → Merged run' other'
-    at-apart {p} {run'} {other'} k lr lo ep w =
-        let m = merged-out-apart out-ready ep w in
-        costly lr lo m.behind m.out-behind (rw (out-apart b (costs (e - s) b.limits) run' other' v.output k, own-out-apart b run other v.output k, state-paid b (e - s)) (m.account (state_of b)))
-
-    at-within : {p : OutMerge} {run' : List ℕ} → b.have_separate_output ≡ false → length run' ≡ length run → p ≡ out_plan s e (cut b.out_len.0 (glyphs run))
-        → WrittenOutWithin p b.idx.0 b.len.0 (glyphs run) (glyphs run') → Merged run' other
-    at-within {p} {run'} k lr ep w =
-        let ready : OutMergeable (glyphs run) (glyphs run) b.idx.0 b.len.0 b.out_len.0 s e = record { order = out-ready.order; end = v.end; out-fits = omega (arith, v.held.out-in, v.held.all_in); inside = v.held.idx-in; fits = out-ready.fits } in
-        let m = merged-out-within ready (v.held.behind v.output k) ep w in
-        costly lr refl m.behind refl (rw (out_within b (costs (e - s) b.limits) run' other v.output k, own-out-within b run other v.output k, state-paid b (e - s)) (m.account (state_of b)))
+    at-written : {run' other' : List ℕ} → length run' ≡ length run → length other' ≡ length other → OutWritten b.have_separate_output b.idx.0 b.len.0 b.out_len.0 s e run other run' other' → Merged run' other'
+    at-written {run'} {other'} lr lo w = by b.have_separate_output refl
+      where
+        by : (x : Bool) → b.have_separate_output ≡ x → Merged run' other'
+        by true k =
+            let q = w.apart k in
+            let m = merged-out-apart out-ready w.p (rw k at w.p-is) q.0 q.1 in
+            costly lr lo m.behind m.out-behind (rw (out-apart b (costs (e - s) b.limits) run' other' v.output k, own-out-apart b run other v.output k, state-paid b (e - s)) (m.account (state_of b)))
+        by false k =
+            let q = w.within k in
+            let ready : OutMergeable (glyphs run) (glyphs run) b.idx.0 b.len.0 b.out_len.0 s e = record { order = out-ready.order; end = v.end; out-fits = omega (arith, v.held.out-in, v.held.all_in); inside = v.held.idx-in; fits = out-ready.fits } in
+            let m = merged-out-within ready (v.held.behind v.output k) w.p (rw k at w.p-is) q.0 in
+            rw q.1 (costly lr refl m.behind refl (rw (out_within b (costs (e - s) b.limits) run' other v.output k, own-out-within b run other v.output k, state-paid b (e - s)) (m.account (state_of b))))
 
 -- ---- the act
 module _ {separate merges : Bool} {idx len out_length s e : ℕ} {run other : List ℕ} where
@@ -96,20 +96,9 @@ module _ {separate merges : Bool} {idx len out_length s e : ℕ} {run other : Li
   pub outs-free : 2 ≤ e - s → merges ≡ false → OutMerges separate merges idx len out_length s e run other run other
   outs-free two h = record { acts = λ b a v. out-leaves v merges two h }
 
-module _ {separate merges : Bool} {idx len out_length s e : ℕ} {run other run' : List ℕ} {p : OutMerge} (two : 2 ≤ e - s) (h : merges ≡ true) (lr : length run' ≡ length run) where
-  pub outs-apart : {other' : List ℕ} → separate ≡ true → length other' ≡ length other → p ≡ out_plan s e (cut out_length (glyphs other)) → WrittenOutApart p idx len (glyphs run) (glyphs other) (glyphs run') (glyphs other') → OutMerges separate merges idx len out_length s e run other run' other'
-  outs-apart k lo ep w = record { acts = λ b a v. at-apart v merges two h (a ∙ k) lr lo ep w }
-
-  pub outs-within : separate ≡ false → p ≡ out_plan s e (cut out_length (glyphs run)) → WrittenOutWithin p idx len (glyphs run) (glyphs run') → OutMerges separate merges idx len out_length s e run other run' other
-  outs-within k ep w = record { acts = λ b a v. at-within v merges two h (a ∙ k) lr ep w }
-
--- what it asks for
-module _ {idx len out_length s e : ℕ} {f g : List ℕ} {p : OutMerge} (w : OutMergeRoom idx len out_length s e f g) (two : 2 ≤ e - s) where
-  pub room-second : p ≡ out_plan s e (cut out_length (glyphs g)) → OutWritable p idx len (glyphs f) (glyphs g)
-  room-second ep = out-writable (record { order = omega arith; end = w.end; out-fits = omega (arith, w.out-fits, w.same); inside = w.inside; fits = w.fits }) ep
-
-  pub room-in-first : p ≡ out_plan s e (cut out_length (glyphs f)) → OutWritable p idx len (glyphs f) (glyphs f)
-  room-in-first ep = out-writable (record { order = omega arith; end = w.end; out-fits = w.out-fits; inside = w.inside; fits = w.fits }) ep
+module _ {separate merges : Bool} {idx len out_length s e : ℕ} {run other run' other' : List ℕ} where
+  pub outs-written : 2 ≤ e - s → merges ≡ true → length run' ≡ length run → length other' ≡ length other → OutWritten separate idx len out_length s e run other run' other' → OutMerges separate merges idx len out_length s e run other run' other'
+  outs-written two h lr lo w = record { acts = λ b a v. at-written v merges two h lr lo (rw a w) }
 
 pub out-turned : {idx len out_length s e : ℕ} {f g : List ℕ} → OutMergeRoom idx len out_length s e f g → OutMergeRoom idx len out_length s e g f
 out-turned w = record { order = w.order; end = w.end; out-fits = omega (arith, w.out-fits, w.same); inside = w.inside; fits = omega (arith, w.fits, w.same); same = sym w.same }
@@ -163,4 +152,4 @@ module _ {merges : Bool} {s e : DonePlace} {b : Buffer} {f g : List ℕ} {v : De
 -- for the proofs of functions
 pub ruleset out_merge_calls = (turned, soundness, tested, done-unsound, done-phase, done_order, done_end, done-goes, done-room)
 
-pub ruleset out_merge_acting = (outs-few, outs-free, outs-apart, outs-within, room-second, room-in-first)
+pub ruleset out_merge_acting = (outs-few, outs-free, outs-written)

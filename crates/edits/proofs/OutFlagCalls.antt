@@ -1,7 +1,6 @@
 -- The outbuffer flag forms: from what the slice workers leave to the account, and the calls.
-use Rattle.lists.proofs.Decisions.{turned}
 use Rattle.lists.specs.inner.States.{Decision}
-use Rattle.lists.specs.inner.Verdicts.{Turned}
+use Rattle.lists.specs.inner.Verdicts.{acts_of, Turned, settled, Decided}
 use Rattle.std.specs.Prelude.{None}
 use mathlib.Core.{Path.◌≡◌, Path.refl, Path.sym, Path.ap, Path.◌∙◌, Path.subst, Bool.Bool, Bool.true, Bool.false, Bool.cond, Bool.not, Bool.◌||◌, Bool.false≢true, List.List}
 use Rattle.std.specs.Prelude.{Option}
@@ -10,16 +9,14 @@ use lib.{Dec.ltb, ListN.length, ListN.drop}
 use Rattle.records.specs.{DonePlace, InputPlace, Contradiction, WrongPhase, OutOfRange, Glyphs.Glyph, View.glyphs}
 use Rattle.records.proofs.View.{glyphs-same}
 use Rattle.lists.specs.{declared.Buffer.Buffer, declared.Lists.Lists}
-use Rattle.lists.specs.{Account.read_level, Account.Account, Account.output_phase, Account.has_output, Account.len, Account.idx, Account.out_length, Account.refused, Account.accepted, Contract.account_of, Contract.state_of, Contract.sound, inner.Held.Held, inner.Verdicts.Leaves}
+use Rattle.lists.specs.{Account.read_level, Account.Account, Account.output_phase, Account.has_output, Account.len, Account.idx, Account.out_length, Account.refused, Account.accepted, Contract.account_of, Contract.state_of, Contract.sound, Contract.Meets, declared.Reply.Reply, inner.Held.Held, inner.Verdicts.Leaves}
 use Rattle.lists.proofs.{Accounts.output-of, Accounts.out_of, Accounts.idx-of, Accounts.wants-of, Accounts.output-clean, SoundLaws.sound-held, Decisions.near_same, Decisions.accepts, Decisions.decided-unsound, Decisions.decided-refused, Decisions.decided-accepted, Decisions.decided-does}
-use Rattle.lists.proofs.SoundLaws.{soundness}
 use Rattle.lists.proofs.Refusing.{refusing}
-use Rattle.records.proofs.Tests.{tested}
 use Rattle.lists.specs.inner.States.{lists_of}
-use Rattle.edits.specs.{inner.Acts.Acts, inner.BoundNumbers.input_number, inner.BoundNumbers.done_number, Flags.place_number, Flags.search_level, Flags.too_far, Flags.start_of, Flags.end_of, Flags.outbuffer_form, Flags.wants_concat, inner.Marks.flagged_part, inner.Marks.sought_out, inner.Marks.flag_out, inner.Marks.OutFlaggable, inner.Marks.OutFlagged, inner.Marks.FlagsOut}
+use Rattle.edits.specs.{inner.Acts.Acts, inner.BoundNumbers.input_number, inner.BoundNumbers.done_number, Flags.place_number, Flags.search_level, Flags.too_far, Flags.start_of, Flags.end_of, Flags.outbuffer_form, Flags.wants_concat, inner.Marks.flagged_part, inner.Marks.sought_out, inner.Marks.flag_out, inner.Marks.OutFlaggable, inner.Marks.OutFlagged, inner.Marks.FlagVerdict, inner.Marks.OutMeets}
 use Rattle.edits.proofs.MergeForms.{OutRange}
 use Rattle.edits.proofs.BoundLaws.{end-most}
-use Rattle.edits.proofs.FlagCalls.{idle-of, end-of}
+use Rattle.edits.proofs.FlagCalls.{by-tests, idle-of, end-of}
 use Rattle.edits.proofs.Searching.{state-searching}
 use Rattle.edits.proofs.OutFlags.{part-behind, middle-fits, out-flagged-apart, out-flagged-within}
 use Rattle.edits.proofs.MergeCalls.{acts-both, in-acts, neither_left, neither_right}
@@ -113,48 +110,64 @@ module _ (interiorly wanted : Bool) (bits : ℕ) (s : Option DonePlace) (e : Opt
       out-in-flags o = simp (h, k, ← ei, ← ej, ← ex, ← en, o, refusing)
 
 -- ---- what the calls come to, by their tests
+pub record FlagsOut (concat : Bool) (start : Option DonePlace) (end : Option InputPlace) (b : Buffer) (f s : List ℕ) (d : Decision) : Type 0 where
+  pub is : (interiorly : Bool) (bits : ℕ → ℕ) {i j : ℕ} → i ≡ start_of (done_number start) → j ≡ end_of (input_number end) b.len.0
+      → Decided (λ capacity a. outbuffer_form interiorly (not concat || wants_concat a.state.wants) (bits a.state.wants) start end a) b f s (settled b d) (acts_of d)
+      (OutFlaggable (lists_of b) i j f s) (OutFlagged interiorly (search_level (read_level b.level) b.wants) (bits b.wants) (lists_of b) i j)
+
 module _ {concat : Bool} {start : Option DonePlace} {end : Option InputPlace} {b : Buffer} {f s : List ℕ} {v : Decision} where
-  pub out-unsound : sound b f s ≡ false → Turned Contradiction v → FlagsOut concat start end b f s v
+  out-unsound : sound b f s ≡ false → Turned Contradiction v → FlagsOut concat start end b f s v
   out-unsound h w = record { is = λ interiorly bits es' ee'. decided-unsound h w }
 
   module _ (h : sound b f s ≡ true) where
-    pub out_none : output_phase b.phase ≡ false → Turned WrongPhase v → FlagsOut concat start end b f s v
+    out_none : output_phase b.phase ≡ false → Turned WrongPhase v → FlagsOut concat start end b f s v
     out_none k w = record { is = λ interiorly bits es' ee'. decided-refused h (record { law = λ run other l. out-in-none interiorly _ _ start end _ (output-of b run other ∙ k) }) w }
 
-    module _ {far idle : Bool} (p : output_phase b.phase ≡ true) (ef : far ≡ too_far (done_number start) (input_number end)) (ei : idle ≡ (not (not concat || wants_concat b.wants) || far)) where
-      pub out-idle : idle ≡ true → Leaves b false None v → FlagsOut concat start end b f s v
+    module _ {idle : Bool} (p : output_phase b.phase ≡ true) (ei : idle ≡ (not (not concat || wants_concat b.wants) || too_far (done_number start) (input_number end))) where
+      out-idle : idle ≡ true → Leaves b false None v → FlagsOut concat start end b f s v
       out-idle k w = record {
         is = λ interiorly bits es' ee'. decided-accepted h (accepts None (near_same b) (λ run other l.
-            (out-in-idle interiorly _ _ start end _ (output-of b run other ∙ p) (idle-of b run other concat _ ef ei ∙ k), l.held))) w;
+            (out-in-idle interiorly _ _ start end _ (output-of b run other ∙ p) (idle-of b run other concat _ ei ∙ k), l.held))) w;
       }
 
       module _ {i j : ℕ} {out : Bool} (n : idle ≡ false) (es : i ≡ start_of (done_number start)) (ee : j ≡ end_of (input_number end) b.len.0) (eo : out ≡ (ltb b.out_len.0 i || ltb j b.idx.0)) where
-        pub out-outside : out ≡ true → Turned OutOfRange v → FlagsOut concat start end b f s v
+        out-outside : out ≡ true → Turned OutOfRange v → FlagsOut concat start end b f s v
         out-outside y w = record {
           is = λ interiorly bits es' ee'. decided-refused h (record {
             law = λ run other l.
-                out-in-outside interiorly _ _ start end _ (output-of b run other ∙ p) (idle-of b run other concat _ ef ei ∙ n) es (end-of end l.held (output-clean b.phase p) ee) (sym (idx-of b run other l.held (output-clean b.phase p))) (sym (out_of b run other l.held)) (sym eo ∙ y);
+                out-in-outside interiorly _ _ start end _ (output-of b run other ∙ p) (idle-of b run other concat _ ei ∙ n) es (end-of end l.held (output-clean b.phase p) ee) (sym (idx-of b run other l.held (output-clean b.phase p))) (sym (out_of b run other l.held)) (sym eo ∙ y);
           }) w;
         }
 
-        pub out-ahead : out ≡ false → Leaves b true None v → FlagsOut concat start end b f s v
+        out-ahead : out ≡ false → Leaves b true None v → FlagsOut concat start end b f s v
         out-ahead y w = record {
           is = λ interiorly bits es' ee'. rw (es' ∙ sym es, ee' ∙ sym ee) (decided-does h (record {
             near = near_same b;
             none = λ c. absurd (false≢true (sym c));
             law = λ run other run' other' l lr lo act.
                 in-acts (out-acts (placed end l.held p ee (sym eo ∙ y)) interiorly (bits b.wants) lr lo act)
-                (out-in-flags interiorly _ _ start end _ (output-of b run other ∙ p) (idle-of b run other concat _ ef ei ∙ n) es (end-of end l.held (output-clean b.phase p) ee) (sym (idx-of b run other l.held (output-clean b.phase p))) (sym (out_of b run other l.held)) (sym eo ∙ y)
+                (out-in-flags interiorly _ _ start end _ (output-of b run other ∙ p) (idle-of b run other concat _ ei ∙ n) es (end-of end l.held (output-clean b.phase p) ee) (sym (idx-of b run other l.held (output-clean b.phase p))) (sym (out_of b run other l.held)) (sym eo ∙ y)
                 ∙ ap (λ (x : ℕ). accepted (flag_out interiorly (bits x) i (j - b.idx.0) (account_of b run other))) (wants-of b run other)) refl;
           }) (λ c. out-flaggable (placed end (sound-held b f s h) p ee (sym eo ∙ y))) w);
         }
 
+none_of : {p : Bool} (x : Bool) {y : Bool} → x ≡ p → not x ≡ y → p ≡ not y
+none_of true eh e = sym eh ∙ ap not e
+none_of false eh e = sym eh ∙ ap not e
+
+module _ {concat : Bool} {start : Option DonePlace} {end : Option InputPlace} {b : Buffer} {f s : List ℕ} {v : Decision} where
+  pub flags-out : {has idle out : Bool} {i j : ℕ} → has ≡ output_phase b.phase → idle ≡ (not (not concat || wants_concat b.wants) || too_far (done_number start) (input_number end)) → i ≡ start_of (done_number start) → j ≡ end_of (input_number end) b.len.0
+      → out ≡ (ltb b.out_len.0 i || ltb j b.idx.0) → FlagVerdict b f s (not has) idle out v → FlagsOut concat start end b f s v
+  flags-out {has} eh ei es ee eo w =
+      by-tests w out-unsound (λ h k. out_none h (none_of has eh k)) (λ h k. out-idle h (none_of has eh k) ei) (λ h k n. out-outside h (none_of has eh k) ei n es ee eo) (λ h k n. out-ahead h (none_of has eh k) ei n es ee eo)
+
 -- ---- the exported calls
+pub out_meets : {concat : Bool} {bits : ℕ} {start : Option DonePlace} {end : Option InputPlace} {b : Buffer} {f s : List ℕ} {r : Reply} {f' s' : List ℕ} → OutMeets concat bits start end b f s r f' s'
+    → Meets (λ capacity a. outbuffer_form (not concat) (not concat || wants_concat a.state.wants) bits start end a) b f s r f' s'
+out_meets {bits = bits} w = w.is (λ n. bits) refl
+
 pub out-turned : {at : Lists} {i j : ℕ} {f s : List ℕ} → OutFlaggable at i j f s → OutFlaggable at i j s f
 out-turned w = record { order = w.order; start = w.start; same = sym w.same; out-fits = omega (arith, w.same, w.out-fits); fits = omega (arith, w.same, w.fits) }
 
 pub out-lies : {interiorly : Bool} {level bits i j : ℕ} {run other run' other' : List ℕ} {at at' : Lists} → at ≡ at' → OutFlagged interiorly level bits at i j run other run' other' → OutFlagged interiorly level bits at' i j run other run' other'
 out-lies {interiorly} {level} {bits} {i} {j} {run} {other} {run'} {other'} e w = subst (λ (x : Lists). OutFlagged interiorly level bits x i j run other run' other') e w
-
--- for the proofs of functions
-pub ruleset out_flag_calls = (turned, soundness, tested, out-unsound, out_none, out-idle, out-outside, out-ahead)

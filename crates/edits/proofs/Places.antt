@@ -1,17 +1,17 @@
 -- Phase positions: the glyphs of one slice with the positions of the other. An edit that keeps positions is the same edit of the pairs.
-use mathlib.Core.{Path.◌≡◌, Path.refl, Path.ap, Path.◌∙◌, Bool.Bool, Bool.true, Bool.false, Bool.cond, Bool.◌&&◌, Bool.◌||◌, List.List}
+use mathlib.Core.{Path.◌≡◌, Path.ap, Path.◌∙◌, Bool.Bool, Bool.true, Bool.false, Bool.cond, Bool.◌&&◌, Bool.◌||◌, List.List}
 use Rattle.std.proofs.Common.{ℕ, ◌+◌, ◌-◌, ◌≤◌, arith}
 use lib.Seq.{slice}
 use Rattle.records.specs.{Phase, Position, Glyphs.Glyph, Glyphs.Info, Glyphs.set_cluster, Glyphs.flagged, Glyphs.flagged_unless, Ranges.edit, Ranges.is, Ranges.isnt, Ranges.first_cluster, Ranges.last_cluster, Ranges.heads, Ranges.tails, Ranges.clusters, View.glyphs, View.positions_in, View.paired}
 use Rattle.records.proofs.View.{length-paired}
 use Rattle.lists.proofs.Showing.{on-shown}
 use Rattle.records.proofs.Apart.{Apart, set_apart, mark-apart, unless-apart, clusters-paired, paired-edit}
-use Rattle.edits.specs.declared.Merge.{Merge}
+use Rattle.edits.specs.declared.Plan.{Plan}
 use Rattle.lists.specs.{Account.State, Account.spoiled_phase, Contract.shown}
 use Rattle.edits.specs.Flags.{interior, sought, flag_interior, flag_all}
 use Rattle.edits.specs.inner.Holding.{holds, cut}
-use Rattle.edits.specs.inner.Plans.{Mergeable, merge_plan, tail_start, merged_run, merged_tail}
-use Rattle.edits.proofs.MergeForms.{InputRange, InputFrom, MergedWithin}
+use Rattle.edits.specs.inner.Plans.{merge_plan, tail_start, merged_range, merged_tail}
+use Rattle.edits.proofs.MergeForms.{Mergeable, InputRange, InputFrom, MergedWithin}
 use Rattle.edits.proofs.MergeLaws.{plan-order, tail-most, merged-within}
 use Rattle.edits.proofs.Searching.{searching}
 use Rattle.edits.proofs.FlagLaws.{flagged-within, flagged-all-within}
@@ -38,24 +38,20 @@ module _ {l : List (Glyph ℕ)} {len out_length s e : ℕ} (v : Mergeable l l le
   pub paired-mergeable : Mergeable (paired l ps) (paired l ps) len out_length s e
   paired-mergeable = record { order = v.order; end = v.end; fits = rw (length-paired l ps) v.fits; out-fits = rw (length-paired l ps) v.out-fits }
 
-  planned-pairs : (idx : ℕ) (p : Merge) → p ≡ merge_plan idx s e (cut len l) → paired (merged_run p (merged_tail p out_length l)) ps ≡ merged_run p (merged_tail p out_length (paired l ps))
-  unfolding merged_run merged_tail
+  planned-pairs : (idx : ℕ) (p : Plan) → p ≡ merge_plan idx s e (cut len l) → paired (merged_range p (merged_tail p out_length l)) ps ≡ merged_range p (merged_tail p out_length (paired l ps))
+  unfolding merged_range merged_tail
   planned-pairs idx p ep =
       let h : Info → Info = set_cluster p.lowest 0 in
-      let at : ℕ = tail_start p.tail p.leader (cut out_length l) out_length in
+      let at : ℕ = tail_start p.along (cut out_length l) out_length in
       rw (clusters-paired l ps)
       (paired-edit h (set_apart p.lowest 0) p.from p.to (edit at out_length h l) ps (plan-order v idx p ep).0
-      ∙ ap (edit p.from p.to h) (paired-edit h (set_apart p.lowest 0) at out_length l ps (tail-most p.tail p.leader out_length (cut out_length l))))
-
-  pub paired-merged : (idx : ℕ)
-      → paired (merged_run (merge_plan idx s e (cut len l)) (merged_tail (merge_plan idx s e (cut len l)) out_length l)) ps
-      ≡ merged_run (merge_plan idx s e (cut len (paired l ps))) (merged_tail (merge_plan idx s e (cut len (paired l ps))) out_length (paired l ps))
-  paired-merged idx = planned-pairs idx _ refl ∙ rw (clusters-paired l ps)
+      ∙ ap (edit p.from p.to h) (paired-edit h (set_apart p.lowest 0) at out_length l ps (tail-most p.along out_length (cut out_length l))))
 
   -- THE LAW of a merge in phase positions
-  pub paired-within : {gone idx : ℕ} → InputFrom gone idx len s → out_length ≤ gone → {l' : List (Glyph ℕ)} → l' ≡ merged_run (merge_plan idx s e (cut len l)) (merged_tail (merge_plan idx s e (cut len l)) out_length l)
+  pub paired-within : {gone idx : ℕ} → InputFrom gone idx len s → out_length ≤ gone → {l' : List (Glyph ℕ)} (p : Plan) → p ≡ merge_plan idx s e (cut len l) → l' ≡ merged_range p (merged_tail p out_length l)
       → MergedWithin gone idx len out_length s e (paired l ps) (paired l' ps)
-  paired-within {gone} {idx} w low {l'} el = merged-within paired-mergeable w low (ap (λ (r : List (Glyph ℕ)). paired r ps) el ∙ paired-merged idx)
+  paired-within {gone} {idx} w low {l'} p ep el =
+      merged-within paired-mergeable w low p (rw (clusters-paired l ps) ep) (ap (λ (r : List (Glyph ℕ)). paired r ps) el ∙ planned-pairs idx p ep)
 
 -- ---- flags, to the account
 module _ {l : List (Glyph ℕ)} {len out_length s e : ℕ} (v : InputRange l l len out_length s e) (ps : List Position) where

@@ -4,19 +4,24 @@ use Rattle.lists.specs.inner.Verdicts.{acts_of}
 use mathlib.Core.{Path.◌≡◌, Path.refl, Path.ap, Path.ap₂, Path.sym, Path.◌∙◌, Bool.false, List.List, List.[], List.◌∷◌, List.map}
 use Rattle.std.proofs.Common.{ℕ, suc, ◌+◌, ◌-◌, ◌%◌, ◌<◌, ◌≤◌, zero-le, le_refl, arith}
 use lib.{Bits.bit_or, Bits.or_zero_r, ListN.take, ListN.drop, ListN.length, ListN.get_or, ListN.set, Seq.slice, Seq.slice_empty, Seq.slice-cons}
-use Rattle.records.specs.{Phase, Plain, Glyphs.Glyph, Glyphs.Info, Glyphs.change, Glyphs.with_mask, Ranges.infos, Ranges.clusters, Ranges.edit, Ranges.heads, Ranges.is, View.glyphs, inner.Stores.zero_glyph}
+use Rattle.records.specs.{Phase, Plain, Glyphs.Glyph, Glyphs.Info, Glyphs.change, Glyphs.with_mask, Ranges.infos, Ranges.edit, View.glyphs, inner.Stores.zero_glyph}
 use Rattle.records.proofs.View.{glyphs-same}
 use Rattle.lists.specs.{declared.Buffer.Buffer}
 use Rattle.lists.specs.{Account.spoiled_phase, Account.with_rest, inner.Masks.joined_low, Account.accepted, Contract.shown, Contract.account_of, inner.Verdicts.Decided}
 use Rattle.lists.specs.inner.Verdicts as verdicts
 use Rattle.lists.proofs.{Accounts.wants-of, Editing.edit-up, Editing.edit-empty, Infos.length-words, Infos.word_of, Infos.map-take, Infos.map-drop, Infos.words-edit}
 use Rattle.lists.proofs.Refusing.{refusing}
+use Rattle.lists.proofs.Joining.{joined-below}
 use Rattle.edits.specs.{Groups.group_sizes, Groups.same_cluster, Groups.joined, Groups.settled_mask, Groups.propagated, Groups.propagate_flags, inner.Wholes.WholeInput, inner.Wholes.RunOf, inner.Wholes.TakesWhole, inner.Propagating.Propagates, inner.Propagating.PropagatesRun}
 use Rattle.records.proofs.Pairs.{mask-alone}
 use Rattle.records.proofs.Apart.{mask-apart, mask-cluster}
 use Rattle.records.proofs.Edited.{edit-take, edit-drop-behind}
-use Rattle.edits.specs.inner.Reversals.{Group}
-use Rattle.edits.proofs.{Holding.slice-take, Places.shown-edit, WholeInputs.whole-acts, MergeCalls.in-acts, WholeInputs.not-not-whole, WholeCalls.OnRun, WholeCalls.takes-decided, GroupLaws.no-group, GroupLaws.cluster-group, GroupLaws.clusters-same, GroupLaws.seen-words}
+use Rattle.std.specs.Fn.{Shared}
+use Rattle.lists.specs.inner.Swapping.{Pair}
+use Rattle.edits.specs.inner.Reversals.{EndsGroup}
+use Rattle.edits.specs.inner.Grouped.{Taken, ActedOnGroup, ActedOnEach}
+use Rattle.edits.proofs.EachGroup.{holds-after}
+use Rattle.edits.proofs.{Holding.slice-take, Places.shown-edit, WholeInputs.whole-acts, MergeCalls.in-acts, WholeInputs.not-not-whole, WholeCalls.OnRun, WholeCalls.takes-decided, GroupLaws.no-group, GroupLaws.clusters-same, GroupLaws.seen-words}
 
 -- ---- masks
 abbrev pub mask_of : Info → ℕ
@@ -75,28 +80,19 @@ pub record Spread (wants n : ℕ) (run run' : List ℕ) (s : ℕ) : Type 0 where
       ≡ propagated wants (group_sizes same_cluster (infos (seen_run p n run other))) 0 (seen_run p n run other)
 
 module _ {wants n : ℕ} {run : List ℕ} where
-  pub spread_none : n ≤ length (glyphs run) → Spread wants n run run 0
+  spread_none : n ≤ length (glyphs run) → Spread wants n run run 0
   spread_none h = record { same-run = refl; fits = h; high = zero-le; behind = refl; is = λ p other k. refl }
 
   module _ {run' : List ℕ} {s : ℕ} (v : Spread wants n run run' s) where
-    module _ {e : ℕ} (o : s < n) (ee : e ≡ s + 1 + heads (is (get_or (clusters (glyphs run')) s 4294967295)) (slice (s + 1) n (clusters (glyphs run')))) where
-      group_at : (p : Phase) (other : List ℕ) → spoiled_phase p ≡ false → Group same_cluster (shown p run' other) n s e
-      group_at p other k = cluster-group p run' other k v.fits o ee
-
+    module _ {e : ℕ} (w : EndsGroup same_cluster run' s n e) where
       after : s < e
-      after = (group_at Plain [] refl).after
+      after = (w.is Plain [] refl).after
 
       inside : e ≤ n
-      inside = (group_at Plain [] refl).inside
+      inside = (w.is Plain [] refl).inside
 
-      pub group-order : s ≤ e
+      group-order : s ≤ e
       group-order = omega (arith, after)
-
-      pub group-fits : e ≤ length (glyphs run')
-      group-fits = omega (arith, inside, v.fits)
-
-      pub group-less : n - e < n - s
-      group-less = omega (arith, after, inside)
 
       module _ (p : Phase) (other : List ℕ) (k : spoiled_phase p ≡ false) where
         masks-seen : slice s e (map mask_of (infos (glyphs run'))) ≡ map mask_of (slice s e (infos (seen_run p n run' other)))
@@ -110,7 +106,7 @@ module _ {wants n : ℕ} {run : List ℕ} where
         group-mask : settled_mask wants (joined_low (slice s e (map mask_of (infos (glyphs run'))))) ≡ settled_mask wants (joined (slice s e (infos (seen_run p n run' other))))
         group-mask = ap (settled_mask wants) (ap joined_low masks-seen ∙ sym (joined-low (slice s e (infos (seen_run p n run' other)))))
 
-      pub spread-more : {run'' : List ℕ} → length run'' ≡ length run'
+      spread-more : {run'' : List ℕ} → length run'' ≡ length run'
           → glyphs run'' ≡ edit s e (with_mask (settled_mask wants (joined_low (slice s e (map mask_of (infos (glyphs run'))))))) (glyphs run') → Spread wants n run run'' e
       spread-more {run''} lr eg = record {
         same-run = lr ∙ v.same-run;
@@ -130,10 +126,10 @@ module _ {wants n : ℕ} {run : List ℕ} where
             clusters-same e (infos L') (infos L) (ap (λ (l : List (Glyph ℕ)). map (λ i. i.cluster) (infos l)) seen ∙ words-edit (λ i. i.cluster) (with_mask m) (mask-cluster m) s e L group-order) in
             ap₂ (λ (ns : List ℕ) (l : List (Glyph ℕ)). propagated wants ns e l) later seen
             ∙ (ap (λ (x : ℕ). propagated wants (group_sizes same_cluster (drop e (infos L))) x (edit s x (with_mask (settled_mask wants (joined (slice s x (infos L))))) L)) (sym on)
-            ∙ (sym (ap (λ (ns : List ℕ). propagated wants ns s L) (group_at p other k).is ∙ one-more wants (e - s) (group_sizes same_cluster (drop e (infos L))) s L) ∙ v.is p other k));
+            ∙ (sym (ap (λ (ns : List ℕ). propagated wants ns s L) (w.is p other k).is ∙ one-more wants (e - s) (group_sizes same_cluster (drop e (infos L))) s L) ∙ v.is p other k));
       }
 
-    pub spread-done : n ≤ s → Propagates wants n run run'
+    spread-done : n ≤ s → Propagates wants n run run'
     spread-done o =
         let high : s ≤ n = v.high in
         let end : s ≡ n = omega arith in
@@ -144,8 +140,18 @@ module _ {wants n : ℕ} {run : List ℕ} where
               sym (ap (λ (ns : List ℕ). propagated wants ns s (seen_run p n run' other)) none ∙ no_more wants s (seen_run p n run' other)) ∙ v.is p other k;
         }
 
-pub propagates-run : {wants n : ℕ} {run other run' : List ℕ} → Propagates wants n run run' → PropagatesRun wants n run other run' other
-propagates-run w = record { run-does = w; other-is = refl }
+-- what the act on each group asks for
+pub group-fits : (run p : List ℕ) {n e : ℕ} → n ≤ length (glyphs run) → length p ≡ length run → e ≤ n → e ≤ length (glyphs p)
+group-fits run p {n} h lr i = let k : n ≤ length (glyphs p) = rw (glyphs-same p run lr) h in omega (arith, i, k)
+
+-- where the act gives a group its masks
+pub propagates_each : {F : Type 0} {g : Shared F Taken (Unit {0} × Pair)} {act : F} {wants n : ℕ} {run₀ other₀ run other : List ℕ} → n ≤ length (glyphs run₀) → ActedOnEach g act same_cluster n run₀ other₀ run other
+    → ((s e : ℕ) (run other run' other' : List ℕ) → ActedOnGroup g act s e run other run' other' → (glyphs run' ≡ edit s e (with_mask (settled_mask wants (joined_low (slice s e (map mask_of (infos (glyphs run))))))) (glyphs run)) × (other' ≡ other))
+    → PropagatesRun wants n run₀ other₀ run other
+propagates_each {wants = wants} {n} {run₀ = run₀} {other₀} f w h =
+    let v = holds-after {Holds = λ s run other. Spread wants n run₀ run s × (other ≡ other₀)} (spread_none f, refl)
+    (λ s e run other run' other' v o g c lr lo. let m = h s e run other run' other' c in (spread-more v.0 g lr m.0, m.1 ∙ v.1)) w.acted in
+    record { run-does = spread-done v.0 w.end; other-is = v.1 }
 
 -- ---- the call
 propagate-accepts : {b : Buffer} {run other : List ℕ} → WholeInput b run other
@@ -166,4 +172,4 @@ pub propagate-decided : {b : Buffer} {f s : List ℕ} {v : Decision} → TakesWh
 propagate-decided {b} w = takes-decided (on-run-propagate b) w
 
 -- for the proofs of functions
-pub ruleset propagating = (group-filled, one-masked, one_inside, one-filled, spread_none, group-order, group-fits, group-less, spread-more, spread-done, propagates-run, propagate-decided)
+pub ruleset propagating = (joined-below, group-filled, one-masked, one_inside, one-filled, propagate-decided)

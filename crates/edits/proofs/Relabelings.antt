@@ -4,9 +4,8 @@ use Rattle.lists.specs.inner.States.{Decision}
 use Rattle.lists.specs.inner.Verdicts.{acts_of, Turned}
 use Rattle.std.specs.Prelude.{Ok, None}
 use mathlib.Core.{Path.◌≡◌, Path.refl, Path.sym, Path.ap, Path.◌∙◌, Bool.Bool, Bool.true, Bool.false, Bool.cond, Bool.◌&&◌, Bool.◌||◌, Bool.false≢true, List.List, List.[], List.◌∷◌, List.◌++◌, List.map, List.append-nil}
-use Rattle.std.proofs.Common.{ℕ, zero, suc, ◌+◌, ◌-◌, ◌<◌, ◌≤◌, zero-le, le_refl, le_of_suc-le-suc, not-suc-le-zero, add-one, arith, eq-eqb, ne_eqb, le-leb}
-use borrow.Author.Tests.{lt-leb}
-use lib.{Bits.bit_and, Bits.bit_or, Dec.leb, Dec.ltb, ListN.length, ListN.take, ListN.drop, ListN.get_or, ListN.set, ListN.length-take, ListN.drop_of_length-le, Seq.set-get_or, Seq.take_all, Seq.take_at, Seq.drop_at, Seq.length-take-le}
+use Rattle.std.proofs.Common.{ℕ, zero, suc, ◌+◌, ◌-◌, ◌<◌, ◌≤◌, zero-le, le_refl, le_of_suc-le-suc, not-suc-le-zero, add-one, arith, eq-eqb, ne_eqb}
+use lib.{Bits.and_le_r, Bits.bit_and, Bits.bit_or, Dec.leb, Dec.ltb, ListN.length, ListN.take, ListN.drop, ListN.get_or, ListN.set, ListN.length-take, ListN.drop_of_length-le, Seq.set-get_or, Seq.take_all, Seq.take_at, Seq.drop_at, Seq.length-take-le}
 use Rattle.records.specs.{Phase, Limits, Position, Contradiction, WrongPhase, Glyphs.Glyph, Glyphs.Info, Glyphs.change, Glyphs.with_mask, Glyphs.with_cluster, Glyphs.with_position, Counters.costs, Ranges.is, Ranges.edit, Ranges.clusters, View.glyphs, View.positions_in, View.paired, inner.Stores.zero_glyph}
 use Rattle.records.proofs.View.{glyphs-same, cluster-of}
 use Rattle.records.proofs.Pairs.{paired-take}
@@ -30,23 +29,6 @@ use Rattle.edits.proofs.WholeCalls.{OnWhole, OnRun, whole-refuses, lying-whole, 
 -- ---- which glyphs are masked
 abbrev mask_test : ℕ → ℕ → ℕ → Bool
 mask_test c s e = (is 0 s && is 4294967295 e) || (leb s c && ltb c e)
-
-module _ (s e : ℕ) where
-  pub everywhere-start : s ≡ 0 → is 4294967295 e ≡ (is 0 s && is 4294967295 e)
-  everywhere-start h = rw (eq-eqb s 0 h)
-
-  pub everywhere-not : (s ≡ 0 → ⊥) → false ≡ (is 0 s && is 4294967295 e)
-  everywhere-not h = rw (ne_eqb s 0 h)
-
-  module _ {t : Bool} (c : ℕ) (et : t ≡ (is 0 s && is 4294967295 e)) where
-    pub masked-everywhere : t ≡ true → true ≡ mask_test c s e
-    masked-everywhere h = rw (← et, h)
-
-    pub masked-from : t ≡ false → s ≤ c → ltb c e ≡ mask_test c s e
-    masked-from h k = rw (← et, h, le-leb s c k)
-
-    pub masked-before : t ≡ false → c < s → false ≡ mask_test c s e
-    masked-before h k = rw (← et, h, lt-leb s c k)
 
 -- one glyph
 module _ (l : List (Glyph ℕ)) (i value mask s e : ℕ) {x : ℕ} {t : Bool} (ex : x ≡ get_or (clusters l) i 4294967295) (et : t ≡ mask_test x s e) where
@@ -217,6 +199,8 @@ pub reset-decided : {b : Buffer} {f s : List ℕ} {v : Decision} → TakesWhole 
 reset-decided {b} w = takes-decided (on-run-reset b) w
 
 -- for the proofs of functions
+pub ruleset replacing_bits = and_le_r
+
 pub ruleset mask_calls = (turned, soundness, masks-unsound, masks-not-whole, masks-none, masks-ahead)
 
-pub ruleset relabeling = (everywhere-start, everywhere-not, masked-everywhere, masked-from, masked-before, unmasked, masked-one, numbering-none, numbering-more, numbering-done, reset-decided)
+pub ruleset relabeling = (unmasked, masked-one, numbering-none, numbering-more, numbering-done, reset-decided)

@@ -1,6 +1,7 @@
 -- Calls that replace glyphs, decided: 0D and 0E, outcome by outcome.
 use Rattle.lists.specs.declared.Verdict.{Verdict}
 use Rattle.lists.specs.inner.Verdicts.{amended, limiting_verdict}
+use Rattle.lists.proofs.CursorCalls.{sound-idx, idx-small}
 use Rattle.lists.proofs.Tries.{Exits}
 use Rattle.lists.specs.inner.Held.{Test}
 use Rattle.std.specs.Prelude.{Ok, None, Some}
@@ -148,4 +149,4 @@ pub given-small : {b : Buffer} {f s : List ℕ} {t : Test} {y : Unit {0}} {n x :
 given-small {b} {f} {s} w h ex k = let v = sound-held b f s (tests-sound w h) in omega arith
 
 -- for the proofs of functions
-pub ruleset replace_calls = (turned, soundness, tested, one-spoils, one-past, one-decided, paying-acts, paying-still, paying-over, replace-unsound, replace-spoils, replace-empty, replace-few, replace-lacks, replace-decided, given-small)
+pub ruleset replace_calls = (turned, soundness, sound-idx, idx-small, tested, one-spoils, one-past, one-decided, paying-acts, paying-still, paying-over, replace-unsound, replace-spoils, replace-empty, replace-few, replace-lacks, replace-decided, given-small)

@@ -129,11 +129,6 @@ module _ {b : Buffer} {f s : List ℕ} {v : Decision} {t' : Bool} (w : TakesWhol
   takes-few = takes_run.room.few
 
 -- for the proofs of functions
-pub ruleset whole-calls = (turned, soundness, takes-unsound, takes-not, takes-ahead, takes_run, takes_first, takes-second, takes-few)
+pub ruleset whole_calls = (turned, soundness, takes-unsound, takes-not, takes-ahead, takes_run, takes_first, takes-second, takes-few)
 
-pub ruleset run-laws = (room-turned, run-turned, places-fit, run-lengths, below, run-becomes)
-
--- the same, as an attribute names it
-pub ruleset whole_calls = whole-calls
-
-pub ruleset run_laws = run-laws
+pub ruleset run_laws = (room-turned, run-turned, places-fit, run-lengths, below, run-becomes)

@@ -100,11 +100,20 @@ module _ {b : Buffer} {run other : List ℕ} (v : Held b run other) (o : output_
       let fits : b.out_len.0 ≤ length l = out-fits v b.have_separate_output in
       done-list b run other ∙ (ap (λ (k : ℕ). take k l) e ∙ take-suc l (b.out_len.0 - 1) zero_glyph (omega arith))
 
-pub last_apart : {A : Type 0} {s : Bool} {x : A} (run other : List A) (k : ℕ) (z : A) → s ≡ true → x ≡ get_or other k z → x ≡ get_or (cond s other run) k z
-last_apart run other k z h e = rw h e
+module _ (separate : Bool) (run other : List ℕ) {output : List ℕ} (eo : output ≡ cond separate other run) where
+  pub last-room : {n : ℕ} → 1 ≤ n → n ≤ length (glyphs run) → n ≤ length (glyphs other) → n - 1 < length (glyphs output)
+  last-room {n} o f g = rw eo (by separate)
+    where
+      by : (x : Bool) → n - 1 < length (glyphs (cond x other run))
+      by true = omega arith
+      by false = omega arith
 
-pub last_within : {A : Type 0} {s : Bool} {x : A} (run other : List A) (k : ℕ) (z : A) → s ≡ false → x ≡ get_or run k z → x ≡ get_or (cond s other run) k z
-last_within run other k z h e = rw h e
+  pub last-is : {x : Glyph ℕ} (k : ℕ) → x ≡ get_or (glyphs output) k zero_glyph → x ≡ get_or (cond separate (glyphs other) (glyphs run)) k zero_glyph
+  last-is k e = e ∙ rw eo (by separate)
+    where
+      by : (x : Bool) → get_or (glyphs (cond x other run)) k zero_glyph ≡ get_or (cond x (glyphs other) (glyphs run)) k zero_glyph
+      by true = refl
+      by false = refl
 
 -- ---- the model of the copies
 module _ (a : Account ℕ) where
@@ -163,4 +172,4 @@ module _ (capacity : ℕ) (a : Account ℕ) where
     glyph-sizes g k = simp (h, k, refusing)
 
 -- for the proofs of functions
-pub ruleset last_glyph = (last_apart, last_within)
+pub ruleset last_glyph = (last-room, last-is)

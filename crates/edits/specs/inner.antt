@@ -14,3 +14,4 @@ pub mod Relabels
 pub mod Reversals
 pub mod Sorts
 pub mod Propagating
+pub mod Grouped

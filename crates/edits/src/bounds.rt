@@ -32,20 +32,14 @@ impl Place for DonePlace {
 pub(crate) fn start<P: Place>(bound: Option<P>) -> usize
     ensures { result ≡ start_of (place_number P.number bound) }
 {
-    match bound {
-        None => 0,
-        Some(p) => p.number(),
-    }
+    bound.map_or(0, |p| p.number())
 }
 
 #[tactic(auto, unfolding(crate::specs::Flags::end_of, crate::specs::Flags::place_number))]
 pub(crate) fn end<P: Place>(bound: Option<P>, len: usize) -> usize
     ensures { result ≡ end_of (place_number P.number bound) len }
 {
-    match bound {
-        None => len,
-        Some(p) => std::cmp::min(p.number(), len),
-    }
+    bound.map_or(len, |p| std::cmp::min(p.number(), len))
 }
 
 // Whether an end lies over 255 places behind a start, modulo 2^64. The start may be a place of *done*, the end one of the input.
@@ -53,11 +47,7 @@ pub(crate) fn end<P: Place>(bound: Option<P>, len: usize) -> usize
 pub(crate) fn too_far<S: Place, E: Place>(start: Option<S>, end: Option<E>) -> bool
     ensures { result ≡ too_far (place_number S.number start) (place_number E.number end) }
 {
-    match start {
-        None => false,
-        Some(s) => match end {
-            None => false,
-            Some(e) => 255 < e.number().wrapping_sub(s.number()),
-        },
-    }
+    start
+        .zip(end)
+        .is_some_and(|(s, e)| 255 < e.number().wrapping_sub(s.number()))
 }

@@ -10,7 +10,7 @@ ghost use Rattle.edits.specs.Deleting.{delete_glyph};
 ghost use Rattle.edits.specs.inner.Charges.{DecidedBy};
 ghost use Rattle.edits.specs.inner.Deletes.{DeleteRoom, NextFound, LastFound, Surviving, Inherits, Deletes, merged_with};
 
-use super::{Way, merge_acts, merges, ways, writing};
+use super::{Way, merge_acts, merges, merging, ways, writing};
 use lists::swapping::Outcome;
 use lists::{Buffer, Decision, Lists, Reply, Verdict, state, swapping, verdicts};
 use records::Refusal;
@@ -19,23 +19,17 @@ fn next_has(run: &[u32], idx: usize, len: usize) -> bool
     requires { (idx < len) × (len ≤ length (glyphs run.now)) }
     ensures { NextFound idx len run.now result }
 {
-    if 1 < len - idx {
-        let c = records::glyphs::cluster_at(run, idx);
-        return records::glyphs::cluster_at(run, idx + 1) == c;
-    }
-    false
+    1 < len - idx
+        && records::glyphs::cluster_at(run, idx + 1) == records::glyphs::cluster_at(run, idx)
 }
 
 fn last_has(run: &[u32], other: &[u32], lists: Lists) -> bool
     requires { (lists.idx < length (glyphs run.now)) × (lists.out_len ≤ length (glyphs run.now)) × (lists.out_len ≤ length (glyphs other.now)) }
     ensures { LastFound lists.separate lists.idx lists.out_len run.now other.now result }
 {
-    if 0 < lists.out_len {
-        let c = records::glyphs::cluster_at(run, lists.idx);
-        let d = writing::last_done(run, other, lists.separate, lists.out_len);
-        return d.cluster == c;
-    }
-    false
+    0 < lists.out_len
+        && writing::last_done(run, other, lists.separate, lists.out_len).cluster
+            == records::glyphs::cluster_at(run, lists.idx)
 }
 
 // Whether the cluster of the glyph at the cursor stays without it.
@@ -43,10 +37,7 @@ fn cluster_survives(run: &[u32], other: &[u32], lists: Lists) -> bool
     requires { DeleteRoom lists.idx lists.len lists.out_len run.now other.now }
     ensures { Surviving lists.separate lists.idx lists.len lists.out_len run.now other.now result }
 {
-    if next_has(run, lists.idx, lists.len) {
-        return true;
-    }
-    last_has(run, other, lists)
+    next_has(run, lists.idx, lists.len) || last_has(run, other, lists)
 }
 
 // The equal tail of the output takes the cluster of the glyph at the cursor, where that is lower.
@@ -60,13 +51,12 @@ fn inherit(run: &mut [u32], other: &mut [u32], lists: Lists)
     if d.cluster <= g.cluster {
         return;
     }
-    if lists.separate {
-        let at = lists::ranges::equal_start(other, out_len, 0, d.cluster);
-        lists::ranges::set_clusters(other, at, out_len, g.cluster, g.mask);
-        return;
-    }
-    let at = lists::ranges::equal_start(run, out_len, 0, d.cluster);
-    lists::ranges::set_clusters(run, at, out_len, g.cluster, g.mask);
+    swapping::act_on(
+        run,
+        other,
+        lists.separate,
+        |out, _rest| merging::set_tail(out, out_len, d.cluster, g.cluster, g.mask),
+    );
 }
 
 // The cluster of the glyph at the cursor goes to a neighbour. Whether the two were merged, which costs 2.

@@ -12,7 +12,7 @@ ghost use Rattle.edits.specs.Deleting.{delete_glyphs_inplace};
 ghost use Rattle.edits.specs.inner.Deletes.{kept_with, MoveRoom, MovesGlyph, Sifts};
 ghost use Rattle.edits.specs.inner.Wholes.{RunRoom};
 
-use super::{Kept, Way, deleting, merge_acts, merges, ways, whole};
+use super::{Kept, Keyed, deleting, merge_acts, merges, ways, whole};
 use lists::swapping::Outcome;
 use lists::{Buffer, Lists, Reply, Verdict, state, swapping};
 use records::{Key, Limits};
@@ -46,27 +46,25 @@ fn sift(
     run: &mut [u32],
     other: &mut [u32],
     positions: bool,
-    way: Way,
+    keyed: Keyed,
     limits: Limits,
-    len: usize,
-    key: Key,
     value: u32,
 ) -> Kept
-    requires way { way.merges ≡ clusters_merge (read_level way.level) }
-    requires room { RunRoom len run.old other.old }
-    ensures { Sifts key.slot key.mask value positions way.level way.wants len limits result run.old other.old run.new other.new }
+    requires way { keyed.way.merges ≡ clusters_merge (read_level keyed.way.level) }
+    requires room { RunRoom keyed.len run.old other.old }
+    ensures { Sifts keyed.key.slot keyed.key.mask value positions keyed.way.level keyed.way.wants keyed.len limits result run.old other.old run.new other.new }
 {
     let mut left = limits;
     let mut out_len = 0;
-    for idx in 0..len {
-        if records::glyphs::key_at(run, idx, key) == value {
+    for idx in 0..keyed.len {
+        if records::glyphs::key_at(run, idx, keyed.key) == value {
             let lists = Lists {
                 idx,
-                len,
+                len: keyed.len,
                 out_len,
                 separate: false,
             };
-            let merged = deleting::keep_cluster(run, other, lists, way);
+            let merged = deleting::keep_cluster(run, other, lists, keyed.way);
             left = merge_acts::merge_limits(left, merged, 2);
         } else {
             move_glyph(run, other, positions, idx, out_len);
@@ -101,14 +99,13 @@ pub fn delete_glyphs_inplace(
 {
     let phase = b.phase;
     let positions = state::have_positions(phase);
-    let way = ways::way_of(b, merges::clusters_merge(b.level));
-    let key = Key { slot, mask };
+    let keyed = ways::keyed_of(b, merges::clusters_merge(b.level), Key { slot, mask });
     let decision = whole::keyed_verdict(b, first, second, slot);
     swapping::carry_out(
         b,
         decision,
         first,
         second,
-        move |run, other| sift(run, other, positions, way, b.limits, b.len.0, key, value),
+        move |run, other| sift(run, other, positions, keyed, b.limits, value),
     )
 }

@@ -16,7 +16,7 @@ pub(crate) const FLAG_TABLE: [u32; 32] = [
 ];
 
 // The mask of a group with these joined bits. The remainder: a state that is handed in may have any wants.
-#[tactic(auto, using(crate::proofs::FlagTables::entry_is))]
+#[tactic(auto, using(crate::proofs::FlagTables::table_entries))]
 pub(crate) fn group_mask(table: &[u32], wants: u32, joined: u32) -> u32
     requires { (table.now ≡ flag_table) × (joined < 8) }
     ensures { result ≡ settled_mask wants joined }

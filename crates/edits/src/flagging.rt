@@ -1,11 +1,15 @@
 // Flags: calls 15 to 19. Each decides, acts and settles. `concat` says which form it is: the definitions of the account take these flags.
 ghost use Rattle.std.specs.Prelude.{◌≡◌, true, false, not, ◌||◌, ltb, if◌then◌else◌, nat_lt};
+ghost use Rattle.lists.specs.Account.{read_level};
 ghost use Rattle.lists.specs.Contract.{gone_of};
 ghost use Rattle.lists.specs.Contract.{Meets};
-ghost use Rattle.edits.specs.Flags.{wants_concat, wants_tatweel, plain_form, outbuffer_form};
-ghost use Rattle.edits.specs.inner.Marks.{FlagsInput, FlagsOut, PlainMeets, OutMeets};
+ghost use Rattle.edits.specs.Flags.{wants_concat, wants_tatweel, search_level, place_number, too_far, plain_form, outbuffer_form};
+ghost use Rattle.edits.specs.inner.{BoundNumbers.input_number};
+ghost use Rattle.edits.specs.inner.Marks.{FlagVerdict, PlainMeets, OutMeets};
 
-use super::{bounds, flags, marking};
+use super::bounds::{self, Place};
+use super::flags;
+use super::marking::{self, FlagForm};
 use lists::{Buffer, Decision, Reply, state, swapping, verdicts};
 use records::{DonePlace, InputPlace, Refusal};
 
@@ -15,7 +19,6 @@ fn wants_concat(wants: u32) -> bool
     wants % 2 == 1
 }
 
-#[tactic(auto, using(crate::proofs::FlagCalls::flag_tests))]
 fn tatweel_bits(wants: u32) -> u32
     ensures { result ≡ (if wants_tatweel wants then 4 else 3) }
 {
@@ -23,10 +26,10 @@ fn tatweel_bits(wants: u32) -> u32
 }
 
 // Whether a form does nothing: a concat form unwanted, or its bounds too far from each other.
-fn idles(concat: bool, wants: u32, far: bool) -> bool
-    ensures { result ≡ (not (not concat || wants_concat wants) || far) }
+fn idles<P: Place>(concat: bool, wants: u32, start: Option<P>, end: Option<InputPlace>) -> bool
+    ensures { result ≡ (not (not concat || wants_concat wants) || too_far (place_number P.number start) (input_number end)) }
 {
-    concat && !wants_concat(wants) || far
+    concat && !wants_concat(wants) || bounds::too_far(start, end)
 }
 
 fn outside_flags(b: Buffer, s: usize, e: usize) -> bool
@@ -41,65 +44,45 @@ fn outside_out(b: Buffer, s: usize, e: usize) -> bool
     b.out_len.0 < s || e < b.idx.0
 }
 
-// 15 to 17
+// The decision of a form, by its tests: whether the phase is wrong, whether it does nothing, and whether a place lies outside.
 #[inline(always)]
-#[tactic(auto, using(crate::proofs::FlagCalls::flag_calls))]
-fn plain_verdict(
+#[tactic(auto, using(crate::proofs::FlagCalls::flag_verdicts))]
+fn verdict(
     b: Buffer,
     first: &[u32],
     second: &[u32],
-    concat: bool,
-    start: Option<InputPlace>,
-    end: Option<InputPlace>,
+    wrong_phase: bool,
+    idle: bool,
+    outside: bool,
 ) -> Decision
-    ensures { FlagsInput concat start end b first.now second.now result }
+    ensures { FlagVerdict b first.now second.now wrong_phase idle outside result }
 {
     state::sound(b, first, second)?;
-    let phase = b.phase;
-    if state::is_spoiled(phase) {
+    if wrong_phase {
         return Err(Refusal::WrongPhase);
     }
-    if idles(concat, b.wants, bounds::too_far(start, end)) {
+    if idle {
         return verdicts::leaves(b, false, None);
     }
-    let s = bounds::start(start);
-    let e = bounds::end(end, b.len.0);
-    if outside_flags(b, s, e) {
+    if outside {
         return Err(Refusal::OutOfRange);
     }
     verdicts::leaves(b, true, None)
 }
 
-// 18 and 19
+// A concat form marks every glyph, the others the interior.
 #[inline(always)]
-#[tactic(auto, using(crate::proofs::OutFlagCalls::out_flag_calls))]
-fn out_verdict(
-    b: Buffer,
-    first: &[u32],
-    second: &[u32],
-    concat: bool,
-    start: Option<DonePlace>,
-    end: Option<InputPlace>,
-) -> Decision
-    ensures { FlagsOut concat start end b first.now second.now result }
+fn form_of(b: Buffer, concat: bool, bits: u32) -> FlagForm
+    ensures { (result.interiorly ≡ not concat) × (read_level result.level ≡ search_level (read_level b.level) b.wants) × (result.bits ≡ bits) }
 {
-    state::sound(b, first, second)?;
-    let phase = b.phase;
-    if state::have_output(phase) {
-        if idles(concat, b.wants, bounds::too_far(start, end)) {
-            return verdicts::leaves(b, false, None);
-        }
-        let s = bounds::start(start);
-        let e = bounds::end(end, b.len.0);
-        if outside_out(b, s, e) {
-            return Err(Refusal::OutOfRange);
-        }
-        return verdicts::leaves(b, true, None);
+    FlagForm {
+        interiorly: !concat,
+        level: flags::search_level(b.level, b.wants),
+        bits,
     }
-    Err(Refusal::WrongPhase)
 }
 
-// A plain form: the concat form marks every glyph, the others the interior.
+// A plain form, on a range of the input: 15 to 17.
 #[inline(always)]
 fn flag_plain(
     b: Buffer,
@@ -112,20 +95,23 @@ fn flag_plain(
 ) -> Reply
     ensures { PlainMeets concat bits start end b first.old second.old result first.new second.new }
 {
-    let decision = plain_verdict(b, first, second, concat, start, end);
     let s = bounds::start(start);
     let e = bounds::end(end, b.len.0);
-    let level = flags::search_level(b.level, b.wants);
+    let spoiled = state::is_spoiled(b.phase);
+    let idle = idles(concat, b.wants, start, end);
+    let decision = verdict(b, first, second, spoiled, idle, outside_flags(b, s, e));
+    let form = form_of(b, concat, bits);
     swapping::carry_out(
         b,
         decision,
         first,
         second,
-        |run, _other| marking::flag_run(run, !concat, level, bits, s, e),
+        |run, _other| marking::flag_run(run, form, s, e),
     )
 }
 
-// An outbuffer form, likewise.
+// An outbuffer form, on a range from the output into the input: 18 and 19. Other phases refuse it than the plain form, other places lie
+// outside, and it marks both lists.
 #[inline(always)]
 fn flag_outbuffer(
     b: Buffer,
@@ -138,22 +124,25 @@ fn flag_outbuffer(
 ) -> Reply
     ensures { OutMeets concat bits start end b first.old second.old result first.new second.new }
 {
-    let decision = out_verdict(b, first, second, concat, start, end);
     let s = bounds::start(start);
     let e = bounds::end(end, b.len.0);
-    let level = flags::search_level(b.level, b.wants);
+    let lacks_output = !state::have_output(b.phase);
+    let idle = idles(concat, b.wants, start, end);
+    let decision = verdict(b, first, second, lacks_output, idle, outside_out(b, s, e));
+    let form = form_of(b, concat, bits);
     let at = state::lists_of(b);
     swapping::carry_out(
         b,
         decision,
         first,
         second,
-        |run, other| marking::flag_out(run, other, at, !concat, level, bits, s, e),
+        |run, other| marking::flag_out(run, other, at, form, s, e),
     )
 }
 
 // 15
 #[inline(always)]
+#[tactic(auto, using(crate::proofs::FlagCalls::plain_meets))]
 pub fn unsafe_to_break(
     b: Buffer,
     first: &mut [u32],
@@ -168,6 +157,7 @@ pub fn unsafe_to_break(
 
 // 16
 #[inline(always)]
+#[tactic(auto, using(crate::proofs::FlagCalls::plain_meets))]
 pub fn unsafe_to_concat(
     b: Buffer,
     first: &mut [u32],
@@ -182,6 +172,7 @@ pub fn unsafe_to_concat(
 
 // 17. Unwanted, it is 15.
 #[inline(always)]
+#[tactic(auto, using(crate::proofs::FlagCalls::tatweel_meets))]
 pub fn safe_to_insert_tatweel(
     b: Buffer,
     first: &mut [u32],
@@ -196,6 +187,7 @@ pub fn safe_to_insert_tatweel(
 
 // 18
 #[inline(always)]
+#[tactic(auto, using(crate::proofs::OutFlagCalls::out_meets))]
 pub fn unsafe_to_break_from_outbuffer(
     b: Buffer,
     first: &mut [u32],
@@ -210,6 +202,7 @@ pub fn unsafe_to_break_from_outbuffer(
 
 // 19
 #[inline(always)]
+#[tactic(auto, using(crate::proofs::OutFlagCalls::out_meets))]
 pub fn unsafe_to_concat_from_outbuffer(
     b: Buffer,
     first: &mut [u32],

@@ -9,16 +9,15 @@ ghost use Rattle.edits.specs.Flags.{interior, search_level, sought, seeks_all};
 use lists::state;
 
 // The level whose way of searching and marking holds: bit 2 of wants gives level 3 that of level 2.
-#[tactic(auto, using(crate::proofs::Searching::search_tests))]
+#[tactic(auto, unfolding(crate::specs::Flags::search_level, lists::specs::Account::read_level))]
 pub(crate) fn search_level(level: u32, wants: u32) -> u32
     ensures { read_level result ≡ search_level (read_level level) wants }
 {
-    if level == 3 {
-        if wants / 4 % 2 == 1 {
-            return 2;
-        }
+    if level == 3 && wants / 4 % 2 == 1 {
+        2
+    } else {
+        level
     }
-    level
 }
 
 // Whether the least cluster is sought in the whole range.

@@ -2,7 +2,7 @@
 
 #![tactic(auto)]
 
-use records::Limits;
+use records::{Key, Limits};
 
 mod bounds;
 pub mod deleting;
@@ -12,6 +12,7 @@ mod flag_table;
 pub mod flagging;
 mod flags;
 pub mod grouping;
+mod groups;
 pub mod lent;
 mod marking;
 mod merge_acts;
@@ -30,26 +31,14 @@ mod ways;
 mod whole;
 pub mod writing;
 
-// What a merge of a range changes: m, the cluster of the range's first glyph, the range as it grew, and whether the
-// equal tail of the output goes with it. No option: the leader holds whatever `tail` says.
+// What a merge changes: m, the range as it grew, and, where glyphs of the other list go along, the cluster that they have: the equal tail of the
+// output with a range of the input, the equal head of the input with one of the output.
 #[derive(Clone, Copy)]
-pub struct Merge {
+pub struct Plan {
     pub lowest: u32,
-    pub leader: u32,
     pub from: usize,
     pub to: usize,
-    pub tail: bool,
-}
-
-// What a merge in the output changes: m, the cluster of the range's last glyph, the range as it grew, and whether the
-// equal head of the input goes with it. Not one type with `Merge`: the names keep the places of input and output apart.
-#[derive(Clone, Copy)]
-pub struct OutMerge {
-    pub lowest: u32,
-    pub closer: u32,
-    pub from: usize,
-    pub to: usize,
-    pub head: bool,
+    pub along: Option<u32>,
 }
 
 // Whether a range merges, and else by which level and wants its flags are sought. No enum: the level and the wants hold
@@ -59,6 +48,15 @@ pub struct Way {
     pub merges: bool,
     pub level: u32,
     pub wants: u32,
+}
+
+// What calls 1E, 21 and 22 go by: how ranges merge, how many glyphs the run has, and the key. What is left of the limits
+// goes beside it, since that changes from step to step.
+#[derive(Clone, Copy)]
+pub struct Keyed {
+    pub way: Way,
+    pub len: usize,
+    pub key: Key,
 }
 
 // What a deletion in place leaves: how many glyphs, and what of the limits.

@@ -1,4 +1,4 @@
-// The flag forms on slices. A range ends before its end, and may be empty. `interiorly` is a flag, as the definitions of the account take it.
+// The flag forms on slices. A range ends before its end, and may be empty.
 ghost use Rattle.std.specs.Prelude.{◌≡◌, ◌≤◌, true, length, if◌then◌else◌};
 ghost use Rattle.std.proofs.Math.Seq.{slice};
 ghost use Rattle.records.specs.Ranges.{clusters};
@@ -10,52 +10,47 @@ ghost use Rattle.edits.specs.inner.Marks.{flagged_run, flagged_part, sought_out,
 use super::flags;
 use lists::{Lists, swapping};
 
+// How a form marks: the interior of a range or every glyph, as which level searches, and with which bits.
+#[derive(Clone, Copy)]
+pub(crate) struct FlagForm {
+    // A flag, as the definitions of the account take it.
+    pub interiorly: bool,
+    pub level: u32,
+    pub bits: u32,
+}
+
 // A plain form on the run.
 #[tactic(auto, using(crate::proofs::MarkLaws::marking))]
-pub(crate) fn flag_run(ws: &mut [u32], interiorly: bool, level: u32, bits: u32, s: usize, e: usize)
+pub(crate) fn flag_run(ws: &mut [u32], form: FlagForm, s: usize, e: usize)
     requires { (s ≤ e) × (e ≤ length (glyphs ws.old)) }
-    ensures { glyphs ws.new ≡ flagged_run interiorly (read_level level) bits s e (glyphs ws.old) }
+    ensures { glyphs ws.new ≡ flagged_run form.interiorly (read_level form.level) form.bits s e (glyphs ws.old) }
 {
-    if interiorly {
+    if form.interiorly {
         if 1 < e - s {
-            flags::flag_range(ws, level, bits, s, e);
+            flags::flag_range(ws, form.level, form.bits, s, e);
         }
     } else {
-        lists::ranges::or_masks(ws, s, e, bits);
+        lists::ranges::or_masks(ws, s, e, form.bits);
     }
 }
 
 // One of the two ranges of an outbuffer form, which sought this cluster.
 #[tactic(auto, using(crate::proofs::MarkLaws::marking))]
-fn flag_part(
-    ws: &mut [u32],
-    interiorly: bool,
-    level: u32,
-    cluster: u32,
-    bits: u32,
-    s: usize,
-    e: usize,
-)
+fn flag_part(ws: &mut [u32], form: FlagForm, cluster: u32, s: usize, e: usize)
     requires { (s ≤ e) × (e ≤ length (glyphs ws.old)) }
-    ensures { glyphs ws.new ≡ flagged_part interiorly (read_level level) cluster bits s e (glyphs ws.old) }
+    ensures { glyphs ws.new ≡ flagged_part form.interiorly (read_level form.level) cluster form.bits s e (glyphs ws.old) }
 {
-    if interiorly {
+    if form.interiorly {
         if s < e {
-            flags::mark_interior(ws, level, cluster, bits, s, e);
+            flags::mark_interior(ws, form.level, cluster, form.bits, s, e);
         }
     } else {
-        lists::ranges::or_masks(ws, s, e, bits);
+        lists::ranges::or_masks(ws, s, e, form.bits);
     }
 }
 
-// The slice that has the output: the state says it as the call runs, so no type does.
-fn output<'a>(run: &'a [u32], other: &'a [u32], separate: bool) -> &'a [u32]
-    ensures { result.now ≡ (if separate then other.now else run.now) }
-{
-    if separate { other } else { run }
-}
-
-// The cluster that a form seeks in a range. An empty range has the largest word.
+// The cluster that a form seeks in a range. An empty range has the largest word, and no option: the account's `sought` of no clusters is that
+// word, which is above none.
 #[tactic(auto, using(crate::proofs::MarkLaws::marking))]
 fn sought_in(ws: &[u32], level: u32, s: usize, e: usize) -> u32
     requires { (s ≤ e) × (e ≤ length (glyphs ws.now)) }
@@ -70,45 +65,37 @@ fn sought_in(ws: &[u32], level: u32, s: usize, e: usize) -> u32
 // The cluster that an outbuffer form seeks: from place s of the output on, and up to place e of the run. A concat form marks every glyph,
 // and seeks none.
 #[tactic(auto, unfolding(crate::specs::inner::Marks::sought_out))]
-fn sought_out(
-    run: &[u32],
-    other: &[u32],
-    at: Lists,
-    interiorly: bool,
-    level: u32,
-    s: usize,
-    e: usize,
-) -> u32
+fn sought_out(run: &[u32], other: &[u32], at: Lists, form: FlagForm, s: usize, e: usize) -> u32
     requires { OutFlaggable at s e run.now other.now }
-    ensures { interiorly ≡ true → result ≡ sought_out (read_level level) s at.out_len at.idx e (glyphs run.now) (if at.separate then glyphs other.now else glyphs run.now) }
+    ensures { form.interiorly ≡ true → result ≡ sought_out (read_level form.level) s at.out_len at.idx e (glyphs run.now) (if at.separate then glyphs other.now else glyphs run.now) }
 {
-    if interiorly {
-        let in_output = sought_in(output(run, other, at.separate), level, s, at.out_len);
-        return std::cmp::min(in_output, sought_in(run, level, at.idx, e));
+    if form.interiorly {
+        let output = swapping::one_of(run, other, at.separate);
+        let in_output = sought_in(output, form.level, s, at.out_len);
+        return std::cmp::min(in_output, sought_in(run, form.level, at.idx, e));
     }
     0
 }
 
 // An outbuffer form: both ranges, the output's first.
+#[tactic(auto, using(crate::proofs::MarkLaws::out_marking))]
 pub(crate) fn flag_out(
     run: &mut [u32],
     other: &mut [u32],
     at: Lists,
-    interiorly: bool,
-    level: u32,
-    bits: u32,
+    form: FlagForm,
     s: usize,
     e: usize,
 )
     requires { OutFlaggable at s e run.old other.old }
-    ensures { OutFlagged interiorly (read_level level) bits at s e run.old other.old run.new other.new }
+    ensures { OutFlagged form.interiorly (read_level form.level) form.bits at s e run.old other.old run.new other.new }
 {
-    let m = sought_out(run, other, at, interiorly, level, s, e);
+    let m = sought_out(run, other, at, form, s, e);
     swapping::act_on(
         run,
         other,
         at.separate,
-        |out, _run| flag_part(out, interiorly, level, m, bits, s, at.out_len),
+        |out, _run| flag_part(out, form, m, s, at.out_len),
     );
-    flag_part(run, interiorly, level, m, bits, at.idx, e);
+    flag_part(run, form, m, at.idx, e);
 }

@@ -8,9 +8,10 @@ ghost use Rattle.lists.specs.inner.Masks.{joined_low};
 ghost use Rattle.lists.specs.Contract.{Meets};
 ghost use Rattle.edits.specs.Groups.{flag_table};
 ghost use Rattle.edits.specs.Groups.{settled_mask, propagate_flags};
-ghost use Rattle.edits.specs.inner.Propagating.{Propagates};
+ghost use Rattle.edits.specs.inner.Propagating.{PropagatesRun};
 
-use super::{flag_table, whole};
+use super::groups::OneCluster;
+use super::{flag_table, groups, whole};
 use lists::{Buffer, Reply, swapping, verdicts};
 
 // The mask of one glyph becomes what the table has at its bits.
@@ -39,26 +40,23 @@ fn propagate_group(run: &mut [u32], table: &[u32], wants: u32, s: usize, e: usiz
 
 // The same of each group of one cluster, from the left. The table is lent, so that it is laid out once a call: a constant that the loop reads
 // costs 65.1 instructions a glyph, where this costs 51.1.
-#[tactic(auto, using(crate::proofs::Propagations::propagating))]
-fn propagate_each(run: &mut [u32], table: &[u32], wants: u32, n: usize)
+fn propagate_each(run: &mut [u32], other: &mut [u32], table: &[u32], wants: u32, n: usize)
     requires { (table.now ≡ flag_table) × (n ≤ length (glyphs run.old)) }
-    ensures { Propagates wants n run.old run.new }
+    ensures { PropagatesRun wants n run.old other.old run.new other.new }
 {
-    let mut s = 0;
-    // No `for`: each step is as long as its group.
-    while s < n {
-        let e = lists::groups::cluster_end(run, s, n);
-        propagate_group(run, table, wants, s, e);
-        s = e;
-    }
+    groups::each_group(run, other, n, &OneCluster, |run, _other, s, e| {
+        propagate_group(run, table, wants, s, e)
+    });
 }
 
-// The same with the table.
-fn propagate_run(run: &mut [u32], wants: u32, n: usize)
+// The same with the table. With a count, and not of a part of the slice: a function that lends the first n glyphs to be
+// written, by `&mut ws[..end]`, does not prove (a part that is handed back is one field or a call's result), and a part's
+// glyphs would be counted again, by a division.
+fn propagate_run(run: &mut [u32], other: &mut [u32], wants: u32, n: usize)
     requires { n ≤ length (glyphs run.old) }
-    ensures { Propagates wants n run.old run.new }
+    ensures { PropagatesRun wants n run.old other.old run.new other.new }
 {
-    propagate_each(run, &flag_table::FLAG_TABLE, wants, n);
+    propagate_each(run, other, &flag_table::FLAG_TABLE, wants, n);
 }
 
 // 23
@@ -71,6 +69,6 @@ pub fn propagate_flags(b: Buffer, first: &mut [u32], second: &mut [u32]) -> Repl
         decision,
         first,
         second,
-        |run, _other| propagate_run(run, b.wants, b.len.0),
+        |run, other| propagate_run(run, other, b.wants, b.len.0),
     )
 }

@@ -11,32 +11,22 @@ use super::whole;
 use lists::{Buffer, Decision, Reply, state, swapping, verdicts};
 use records::Refusal;
 
-// Start 0 and the largest end stand for everywhere.
-#[tactic(auto, using(crate::proofs::Relabelings::relabeling))]
+// Start 0 and the largest end stand for everywhere. No option: so document 01 lists the operands of 1A.
 fn is_everywhere(start: u32, end: u32) -> bool
     ensures { result ≡ (is 0 start && is 4294967295 end) }
 {
-    if start == 0 {
-        return end == 4294967295;
-    }
-    false
+    start == 0 && end == u32::MAX
 }
 
 // Whether a glyph of this cluster is masked.
-#[tactic(auto, using(crate::proofs::Relabelings::relabeling))]
 fn is_masked(cluster: u32, start: u32, end: u32) -> bool
     ensures { result ≡ ((is 0 start && is 4294967295 end) || (nat_le start cluster && nat_lt cluster end)) }
 {
-    if is_everywhere(start, end) {
-        return true;
-    }
-    if start <= cluster {
-        return cluster < end;
-    }
-    false
+    is_everywhere(start, end) || (start..end).contains(&cluster)
 }
 
 // The bits that mask has come from value, the others stay.
+#[tactic(auto, using(crate::proofs::Relabelings::replacing_bits))]
 fn replaced_bits(old: u32, value: u32, mask: u32) -> u32
     ensures { result ≡ bit_or (old - bit_and mask old) (bit_and mask value) }
 {
@@ -54,6 +44,8 @@ fn mask_glyph(ws: &mut [u32], i: usize, value: u32, mask: u32, start: u32, end: 
     }
 }
 
+// A count, and no part of the slice, here and in `number_clusters`: that the whole ends as the part and the rest does not prove of a function
+// that returns the part alone. It does of one that returns both parts, but then to part the slice and to write are two functions each.
 #[tactic(auto, using(lists::proofs::Editing::editing))]
 fn mask_glyphs(ws: &mut [u32], n: usize, value: u32, mask: u32, start: u32, end: u32)
     requires { n ≤ length (glyphs ws.old) }

@@ -59,7 +59,7 @@ fn merge_inputs(run: &mut [u32], other: &mut [u32], at: Lists, way: Way, end: us
 
 // The inputs merge, then copies of the first go behind the output in their place. The two counts are operands of the call, and bound
 // neither slice: they are no length of `numbers`.
-#[tactic(auto, using(crate::proofs::PutLaws::put_laws, std::proofs::Common::rules))]
+#[tactic(auto, using(crate::proofs::PutLaws::put_laws, crate::proofs::Chaining::staying, std::proofs::Common::rules))]
 pub(crate) fn replace<G: Given>(
     run: &mut [u32],
     other: &mut [u32],

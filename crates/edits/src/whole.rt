@@ -17,6 +17,7 @@ pub(crate) fn not_whole(b: Buffer) -> bool
 
 // 1B, 1D, 1F and 23: nothing else refuses them.
 #[inline(always)]
+#[tactic(auto, using(crate::proofs::WholeCalls::whole_calls))]
 pub(crate) fn whole_verdict(b: Buffer, first: &[u32], second: &[u32]) -> Decision
     ensures { TakesWhole b first.now second.now result }
 {

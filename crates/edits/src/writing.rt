@@ -108,16 +108,14 @@ pub fn output_info(b: Buffer, first: &mut [u32], second: &mut [u32], g: GlyphInf
     )
 }
 
-// The last glyph of the output, in whichever slice it lies: the state says it as the call runs, so no type does.
+// The last glyph of the output, in whichever slice it lies.
 #[tactic(auto, using(crate::proofs::Writings::last_glyph))]
 pub(crate) fn last_done(run: &[u32], other: &[u32], separate: bool, out_len: usize) -> GlyphInfo
     requires { (1 ≤ out_len) × (out_len ≤ length (glyphs run.now)) × (out_len ≤ length (glyphs other.now)) }
     ensures { seen result ≡ slice_index_or (if separate then glyphs other.now else glyphs run.now) (out_len - 1) zero_glyph }
 {
-    if separate {
-        return records::glyphs::get(other, out_len - 1);
-    }
-    records::glyphs::get(run, out_len - 1)
+    let output = swapping::one_of(run, other, separate);
+    records::glyphs::get(output, out_len - 1)
 }
 
 // What is left of a verdict where there is no glyph to be copied: its size.

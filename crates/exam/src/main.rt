@@ -13,6 +13,7 @@ ghost use Rattle.commands.specs.Texts.{exam_run, last_account};
 use commands::texts;
 
 // The answers to a string's commands, printed, and then the report of what they leave, at the start of a room. Gives its length.
+// No function shared with desk: what a program prints is promised of a function of its own, and only one call would be left in it.
 fn answer_all(first: &mut [u32], second: &mut [u32], script: &[u8], out: &mut [u8]) -> usize
     requires { (words_for 2048 ≡ length first.old) × (words_for 2048 ≡ length second.old) × (331938 ≡ length out.old) }
     ensures { Holds (report (last_account (exam_run 2048 script.now))) result out.new }

@@ -121,9 +121,9 @@ copying-more {src} {dst₀} {from} {to} {n} {dst} {dst'} {i} {g} v h eg ep el =
     }
 
 -- within one slice, towards the front: what is read has not been written
-pub copying-down : {ws₀ : List ℕ} {from to n : ℕ} {ws ws' : List ℕ} {i : ℕ} {g : Glyph ℕ} → Copying ws₀ ws₀ from to n ws i → to ≤ from → i < n
+pub copying_down : {ws₀ : List ℕ} {from to n : ℕ} {ws ws' : List ℕ} {i : ℕ} {g : Glyph ℕ} → Copying ws₀ ws₀ from to n ws i → to ≤ from → i < n
     → g ≡ get_or (glyphs ws) (from + i) zero_glyph → glyphs ws' ≡ set (glyphs ws) (to + i) g → length ws' ≡ length ws → Copying ws₀ ws₀ from to n ws' (i + 1)
-copying-down {ws₀} {from} {to} {n} {ws} {ws'} {i} {g} v o h eg ep el =
+copying_down {ws₀} {from} {to} {n} {ws} {ws'} {i} {g} v o h eg ep el =
     copying-more v h (eg ∙ rw v.is (copied-after zero_glyph (glyphs ws₀) (glyphs ws₀) to from i (from + i) (omega arith) (omega arith) (omega arith))) ep el
 
 pub copying-room : {ws₀ : List ℕ} {from to n : ℕ} {ws : List ℕ} {i : ℕ} → Copying ws₀ ws₀ from to n ws i → i < n → from + i < length (glyphs ws)

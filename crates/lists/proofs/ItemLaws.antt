@@ -1,30 +1,35 @@
 -- What a buffer shows, one thing after the other: where each thing lies, and how many there are.
 use mathlib.Core.{Path.◌≡◌, Path.refl, Path.sym, Path.ap, Path.◌∙◌, Bool.Bool, Bool.true, Bool.false, Bool.cond, Bool.false≢true, List.List, List.[], List.◌∷◌, List.◌++◌, List.map}
-use Prim.Native.Nat.{ℕ, ◌+◌, ◌-◌, ◌^◌, ◌≤◌, ◌<◌}
+use Prim.Native.Nat.{ℕ, zero, suc, ◌+◌, ◌-◌, ◌^◌, ◌≤◌, ◌<◌}
 use native.Mathlib.Omega.{arith}
-use lib.{ListN.length, ListN.get_or, ListN.take, ListN.length-map, ListN.length-append, ListN.get_or-append, ListN.get_or-eq_default, Seq.slice, Seq.get_or-take, Seq.get_or-drop, Seq.get_or-append-add, Seq.length-take-le}
+use Rattle.std.specs.Prelude.{Option, None, Some, slice_get}
+use Rattle.std.specs.Option.{option_map}
+use Rattle.std.proofs.lemmas.Option.{slice_get-get_or, slice_get-map, slice_get_past}
+use lib.{ListN.length, ListN.get_or, ListN.take, ListN.length-map, ListN.length-append, Seq.slice, Seq.get_or-take, Seq.get_or-drop, Seq.length-take-le}
 use Rattle.records.specs.{Phase, Plain, Output, Positions, Spoiled, Position, Glyphs.Glyph, Glyphs.zero_position, View.glyphs, View.positions_in, View.paired, View.seen, View.stored, inner.Stores.zero_glyph}
 use Rattle.records.proofs.{View.stored-seen, View.glyphs-same, View.positions-glyphs, Pairs.paired-stored, Pairs.paired-positions, Renaming.take-map}
 use Rattle.records.specs.declared.GlyphInfo.{GlyphInfo}
-use Rattle.lists.specs.{declared.Buffer.Buffer, declared.Item.Item, declared.Item.TheVariants.OfDone, declared.Item.TheVariants.OfPassed, declared.Item.TheVariants.OfRest, declared.Item.TheVariants.OfPosition, declared.Item.TheVariants.Nothing}
+use Rattle.lists.specs.{declared.Buffer.Buffer, declared.Item.Item, declared.Item.TheVariants.OfDone, declared.Item.TheVariants.OfPassed, declared.Item.TheVariants.OfRest, declared.Item.TheVariants.OfPosition}
 use Rattle.lists.specs.Account.{Account, output_phase, positions_phase, spoiled_phase, input, positions, out_length}
 use Rattle.lists.specs.{Contract.shown, Contract.gone_of, Contract.account_of, Contract.account, Contract.sound, inner.Held.Soundness, inner.Held.Held}
 use Rattle.lists.specs.Contract.{items}
 use Rattle.lists.proofs.Accounts.{positions-of, length-shown, out_of, rest_of, gone-in, passed-of, gone-spoiled, places-in, gone-within, input-length}
-use Rattle.lists.proofs.SoundLaws.{held_first, sound-held, is-sound, is-unsound, soundness}
-use Rattle.lists.proofs.Calls.{account-first, account-second}
+use Rattle.lists.proofs.SoundLaws.{held_first, held-second, out-fits, sound-held, is-sound, is-unsound, soundness}
 use Rattle.lists.proofs.Outputs.{gone-without}
 use Rattle.records.proofs.Made.{map_at}
 use Rattle.lists.proofs.Simple.{input_of, on-account}
 
 -- ---- lists one after the other, each of its own kind
 module _ {A B : Type 0} (f : A → B) where
-  module _ (l : List A) (m : List B) (k : ℕ) (z : B) where
-    map-within : (d : A) → k < length l → get_or (map f l ++ m) k z ≡ f (get_or l k d)
-    map-within d h = let e : length (map f l) ≡ length l = length-map l f in get_or-append (map f l) m z k (omega arith) ∙ map_at f l k d z h
+  map-within : (l : List A) (m : List B) (k : ℕ) (d : A) → k < length l → slice_get (map f l ++ m) k ≡ Some (f (get_or l k d))
+  map-within [] m k d h = absurd (omega arith)
+  map-within (x ∷ l) m zero d h = refl
+  map-within (x ∷ l) m (suc k) d h = map-within l m k d (omega arith)
 
-    map-past : (n : ℕ) → length l ≡ n → get_or (map f l ++ m) (n + k) z ≡ get_or m k z
-    map-past n e = ap (λ (i : ℕ). get_or (map f l ++ m) (i + k) z) (sym (length-map l f ∙ e)) ∙ get_or-append-add (map f l) m k z
+  map-past : (l : List A) (m : List B) (k i : ℕ) → length l + k ≡ i → slice_get (map f l ++ m) i ≡ slice_get m k
+  map-past [] m k i e = let at : i ≡ k = omega arith in ap (slice_get m) at
+  map-past (x ∷ l) m k zero e = absurd (omega arith)
+  map-past (x ∷ l) m k (suc i) e = map-past l m k i (omega arith)
 
 empty : {A : Type 0} (l : List A) → length l ≡ 0 → l ≡ []
 empty [] e = refl
@@ -62,17 +67,17 @@ stored_at p run other i h k =
 
 -- ---- positions by themselves
 module _ (p : Phase) {t : Bool} (ps : List Position) {n k : ℕ} (l : n ≤ length ps) (e : t ≡ positions_phase p) (h : t ≡ true) where
-  pub place_at : {q : Position} → k < n → q ≡ get_or ps k zero_position → OfPosition q ≡ get_or (map OfPosition (cond (positions_phase p) (take n ps) [])) k Nothing
+  pub place_at : {q : Position} → k < n → q ≡ get_or ps k zero_position → Some (OfPosition q) ≡ slice_get (map OfPosition (cond (positions_phase p) (take n ps) [])) k
   place_at i eq =
       let m : length (take n ps) ≡ n = length-take-le n ps l in
-      rw (sym e ∙ h) (sym (map_at OfPosition (take n ps) k zero_position Nothing (omega arith) ∙ ap OfPosition (get_or-take n ps k zero_position i ∙ sym eq)))
+      rw (sym e ∙ h) (sym (slice_get-map OfPosition (take n ps) k ∙ ap (option_map OfPosition) (slice_get-get_or (take n ps) k zero_position (omega arith) ∙ ap Some (get_or-take n ps k zero_position i ∙ sym eq))))
 
-  pub place-past : n ≤ k → Nothing ≡ get_or (map OfPosition (cond (positions_phase p) (take n ps) [])) k Nothing
+  pub place-past : n ≤ k → None ≡ slice_get (map OfPosition (cond (positions_phase p) (take n ps) [])) k
   place-past i =
       let m : length (map OfPosition (take n ps)) ≡ n = length-map (take n ps) OfPosition ∙ length-take-le n ps l in
-      rw (sym e ∙ h) (sym (get_or-eq_default (map OfPosition (take n ps)) Nothing (omega arith)))
+      rw (sym e ∙ h) (sym (slice_get_past (map OfPosition (take n ps)) k (omega arith)))
 
-pub place_none : (p : Phase) {t : Bool} (ps : List Position) (n k : ℕ) → t ≡ positions_phase p → t ≡ false → Nothing ≡ get_or (map OfPosition (cond (positions_phase p) (take n ps) [])) k Nothing
+pub place_none : (p : Phase) {t : Bool} (ps : List Position) (n k : ℕ) → t ≡ positions_phase p → t ≡ false → None ≡ slice_get (map OfPosition (cond (positions_phase p) (take n ps) [])) k
 place_none p ps n k e h = rw (sym e ∙ h)
 
 -- ---- where each thing lies
@@ -105,35 +110,36 @@ module _ (b : Buffer) (run other : List ℕ) (v : Held b run other) where
   abbrev after : List Item
   after = map (λ g. OfPassed (stored g)) shows.passed ++ (map (λ g. OfRest (stored g)) shows.rest ++ map OfPosition (positions shows))
 
+  glyphs_of : (x : Bool) → glyphs (cond x other run) ≡ cond x (glyphs other) (glyphs run)
+  glyphs_of true = refl
+  glyphs_of false = refl
+
   module _ (k : ℕ) where
-    done_at : k < b.out_len.0 → get_or (items shows) k Nothing ≡ OfDone (stored (get_or shows.done k zero_glyph))
+    done_at : k < b.out_len.0 → slice_get (items shows) k ≡ Some (OfDone (stored (get_or shows.done k zero_glyph)))
     unfolding items out_length
-    done_at h = let e : length shows.done ≡ b.out_len.0 = out_of b run other v in map-within (λ g. OfDone (stored g)) shows.done _ k Nothing zero_glyph (omega arith)
+    done_at h = let e : length shows.done ≡ b.out_len.0 = out_of b run other v in map-within (λ g. OfDone (stored g)) shows.done _ k zero_glyph (omega arith)
 
-    pub apart-room : k < b.out_len.0 → k < length (glyphs other)
-    apart-room h = let e : length (glyphs run) ≡ length (glyphs other) = glyphs-same run other v.same in omega arith
-
-    module _ {g : GlyphInfo} (h : k < b.out_len.0) where
-      done-of : seen g ≡ get_or (cond b.have_separate_output (glyphs other) (glyphs run)) k zero_glyph → OfDone g ≡ get_or (items shows) k Nothing
+    module _ {o : List ℕ} (eo : o ≡ cond b.have_separate_output other run) (h : k < b.out_len.0) where
+      done-of : {g : GlyphInfo} → seen g ≡ get_or (cond b.have_separate_output (glyphs other) (glyphs run)) k zero_glyph → Some (OfDone g) ≡ slice_get (items shows) k
       unfolding account_of
-      done-of e = sym (done_at h ∙ ap OfDone (ap stored (get_or-take b.out_len.0 _ k zero_glyph h ∙ sym e) ∙ stored-seen g))
+      done-of {g} e = sym (done_at h ∙ ap Some (ap OfDone (ap stored (get_or-take b.out_len.0 _ k zero_glyph h ∙ sym e) ∙ stored-seen g)))
 
-      pub done-apart : b.have_separate_output ≡ true → seen g ≡ get_or (glyphs other) k zero_glyph → OfDone g ≡ get_or (items shows) k Nothing
-      done-apart t e = done-of (rw t e)
+      pub done-room : k < length (glyphs o)
+      done-room = rw (eo, glyphs_of b.have_separate_output) (omega (arith, out-fits v b.have_separate_output))
 
-      pub done-within : b.have_separate_output ≡ false → seen g ≡ get_or (glyphs run) k zero_glyph → OfDone g ≡ get_or (items shows) k Nothing
-      done-within t e = done-of (rw t e)
+      pub done-shown : {g : GlyphInfo} → seen g ≡ get_or (glyphs o) k zero_glyph → Some (OfDone g) ≡ slice_get (items shows) k
+      done-shown e = done-of (e ∙ ap (λ (l : List (Glyph ℕ)). get_or l k zero_glyph) (ap glyphs eo ∙ glyphs_of b.have_separate_output))
 
-    past-done : get_or (items shows) (b.out_len.0 + k) Nothing ≡ get_or after k Nothing
+    past-done : slice_get (items shows) (b.out_len.0 + k) ≡ slice_get after k
     unfolding items out_length
-    past-done = map-past (λ g. OfDone (stored g)) shows.done _ k Nothing b.out_len.0 (out_of b run other v)
+    past-done = let e : length shows.done ≡ b.out_len.0 = out_of b run other v in map-past (λ g. OfDone (stored g)) shows.done _ k _ (omega arith)
 
-    pub item-after : {r : Item} → b.out_len.0 ≤ k → r ≡ get_or (items shows) (b.out_len.0 + (k - b.out_len.0)) Nothing → r ≡ get_or (items shows) k Nothing
-    item-after h e = e ∙ ap (λ (i : ℕ). get_or (items shows) i Nothing) (omega arith)
+    pub item-after : {r : Option Item} → b.out_len.0 ≤ k → r ≡ slice_get (items shows) (b.out_len.0 + (k - b.out_len.0)) → r ≡ slice_get (items shows) k
+    item-after h e = let at : b.out_len.0 + (k - b.out_len.0) ≡ k = omega arith in e ∙ ap (slice_get (items shows)) at
 
     module _ {from : ℕ} (ef : from ≡ gone_of b) where
       module _ {g : GlyphInfo} (e : seen g ≡ get_or (glyphs run) (from + k) zero_glyph) where
-        pub passed-at : k < b.len.0 - from → from + k < b.idx.0 → OfPassed g ≡ get_or (items shows) (b.out_len.0 + k) Nothing
+        pub passed-at : k < b.len.0 - from → from + k < b.idx.0 → Some (OfPassed g) ≡ slice_get (items shows) (b.out_len.0 + k)
         unfolding account_of
         passed-at n h =
             let c : spoiled_phase b.phase ≡ false = clean (omega arith) in
@@ -141,9 +147,9 @@ module _ (b : Buffer) (run other : List ℕ) (v : Held b run other) where
             let w : stored (get_or shows.passed k zero_glyph) ≡ g =
             ap stored (slice_at (gone_of b) b.idx.0 (shown b.phase run other) k zero_glyph (omega arith))
             ∙ (stored_at b.phase run other (gone_of b + k) c (omega arith) ∙ (rw (← ef) (ap stored (sym e)) ∙ stored-seen g)) in
-            sym (past-done ∙ (map-within (λ x. OfPassed (stored x)) shows.passed _ k Nothing zero_glyph (omega arith) ∙ ap OfPassed w))
+            sym (past-done ∙ (map-within (λ x. OfPassed (stored x)) shows.passed _ k zero_glyph (omega arith) ∙ ap Some (ap OfPassed w)))
 
-        pub rest_at : k < b.len.0 - from → b.idx.0 ≤ from + k → OfRest g ≡ get_or (items shows) (b.out_len.0 + k) Nothing
+        pub rest_at : k < b.len.0 - from → b.idx.0 ≤ from + k → Some (OfRest g) ≡ slice_get (items shows) (b.out_len.0 + k)
         unfolding account_of
         rest_at n h =
             let c : spoiled_phase b.phase ≡ false = clean (omega arith) in
@@ -156,20 +162,18 @@ module _ (b : Buffer) (run other : List ℕ) (v : Held b run other) where
             ∙ (stored_at b.phase run other (b.idx.0 + j) c (omega arith)
             ∙ (ap (λ (x : ℕ). stored (get_or (glyphs run) x zero_glyph)) (omega arith) ∙ (ap stored (sym e) ∙ stored-seen g))) in
             sym (past-done
-            ∙ (ap (λ (x : ℕ). get_or after x Nothing) (omega arith)
-            ∙ (map-past (λ x. OfPassed (stored x)) shows.passed _ j Nothing (b.idx.0 - gone_of b) l
-            ∙ (map-within (λ x. OfRest (stored x)) shows.rest _ j Nothing zero_glyph (omega arith) ∙ ap OfRest w))))
+            ∙ (map-past (λ x. OfPassed (stored x)) shows.passed _ j k (omega arith)
+            ∙ (map-within (λ x. OfRest (stored x)) shows.rest _ j zero_glyph (omega arith) ∙ ap Some (ap OfRest w))))
 
       -- past the glyphs
-      pub placed_at : {r : Item} → b.len.0 - from ≤ k → r ≡ get_or (map OfPosition (cond (positions_phase b.phase) (take b.len.0 (positions_in other)) [])) (k - (b.len.0 - from)) Nothing → r ≡ get_or (items shows) (b.out_len.0 + k) Nothing
+      pub placed_at : {r : Option Item} → b.len.0 - from ≤ k → r ≡ slice_get (map OfPosition (cond (positions_phase b.phase) (take b.len.0 (positions_in other)) [])) (k - (b.len.0 - from)) → r ≡ slice_get (items shows) (b.out_len.0 + k)
       placed_at h e =
           let l : length shows.passed + length shows.rest ≡ b.len.0 - gone_of b = input-length b run other v in
           let j : ℕ = k - (b.len.0 - from) in
           e ∙ sym (past-done
-          ∙ (ap (λ (x : ℕ). get_or after x Nothing) (omega arith)
-          ∙ (map-past (λ x. OfPassed (stored x)) shows.passed _ (length shows.rest + j) Nothing (length shows.passed) refl
-          ∙ (map-past (λ x. OfRest (stored x)) shows.rest _ j Nothing (length shows.rest) refl
-          ∙ ap (λ (ps : List Position). get_or (map OfPosition ps) j Nothing) positions-are))))
+          ∙ (map-past (λ x. OfPassed (stored x)) shows.passed _ (length shows.rest + j) k (omega arith)
+          ∙ (map-past (λ x. OfRest (stored x)) shows.rest _ j _ refl
+          ∙ ap (λ (ps : List Position). slice_get (map OfPosition ps) j) positions-are)))
 
   -- ---- how many
   items-length : length (items shows) ≡ b.out_len.0 + (b.len.0 - gone_of b) + length (cond (positions_phase b.phase) (take b.len.0 (positions_in other)) [])
@@ -222,12 +226,22 @@ module _ {b : Buffer} {f s : List ℕ} {t : Bool} (w : Soundness b f s t) where
   none-unsound x h = rw (is-unsound w h)
 
   module _ (h : t ≡ true) where
-    module _ {r : Item} (k : ℕ) where
-      pub item-second : b.swapped ≡ true → r ≡ get_or (items (account_of b s f)) k Nothing → r ≡ cond (sound b f s) (get_or (items (account b f s)) k Nothing) Nothing
-      item-second g e = rw (is-sound w h, account-second b f s g) e
+    module _ (k : ℕ) where
+      module _ {run other : List ℕ} (er : run ≡ cond b.swapped s f) (eo : other ≡ cond b.swapped f s) where
+        pub item-held : Held b run other
+        item-held = rw (er, eo) (by_side b.swapped)
+          where
+            by_side : (x : Bool) → Held b (cond x s f) (cond x f s)
+            by_side true = held-second w h
+            by_side false = held_first w h
 
-      pub item-first : b.swapped ≡ false → r ≡ get_or (items (account_of b f s)) k Nothing → r ≡ cond (sound b f s) (get_or (items (account b f s)) k Nothing) Nothing
-      item-first g e = rw (is-sound w h, account-first b f s g) e
+        pub item-shown : {r : Option Item} → r ≡ slice_get (items (account_of b run other)) k → r ≡ cond (sound b f s) (slice_get (items (account b f s)) k) None
+        unfolding account
+        item-shown e = rw (is-sound w h) (e ∙ (rw (er, eo) (by_side b.swapped)))
+          where
+            by_side : (x : Bool) → slice_get (items (account_of b (cond x s f) (cond x f s))) k ≡ slice_get (items (cond x (account_of b s f) (account_of b f s))) k
+            by_side true = refl
+            by_side false = refl
 
     module _ {gone : ℕ} (e : gone ≡ gone_of b) where
       pub gone-below : gone ≤ b.len.0
@@ -247,4 +261,6 @@ module _ {b : Buffer} {f s : List ℕ} {t : Bool} (w : Soundness b f s t) where
         count-without q = rw (is-sound w h, e) (sym (counted-plain b f s (is-sound w h) (sym ep ∙ q)))
 
 -- for the proofs of functions
-pub ruleset showing = (soundness, apart-room, done-apart, done-within, item-after, passed-at, rest_at, placed_at, place_at, place-past, place_none, item-first, item-second, none-unsound, gone-below, twice-fits, both-fit, count-with-positions, count-without, places-in)
+pub ruleset placing = (place_at, place-past, place_none)
+
+pub ruleset showing = (soundness, done-room, done-shown, item-after, passed-at, rest_at, placed_at, item-held, item-shown, none-unsound, gone-below, twice-fits, both-fit, count-with-positions, count-without, places-in)

@@ -112,9 +112,9 @@ module _ {call : ℕ → Account ℕ → Result ℕ} (h : Account ℕ → Accoun
 Unwritten : (run other run' other' : List ℕ) → Type 0
 Unwritten run other run' other' = (run' ≡ run) × (other' ≡ other)
 
-pub clear-output-meets : {b x : Buffer} {f s : List ℕ} {v : Decision} → Clears b f s v → x ≡ opened_buffer b → Meets (λ capacity a. clear_output a) b f s (settled_as b x v) f s
+pub clear_output_meets : {b x : Buffer} {f s : List ℕ} {v : Decision} → Clears b f s v → x ≡ opened_buffer b → Meets (λ capacity a. clear_output a) b f s (settled_as b x v) f s
 unfolding clear_output opened_buffer Unwritten
-clear-output-meets {b} {x} {f} {s} {v} ev ex = rw ex (by (acts_of v) refl)
+clear_output_meets {b} {x} {f} {s} {v} ev ex = rw ex (by (acts_of v) refl)
   where
     decided : Decided (λ capacity a. clear_output a) b f s (settled_as b (opened_buffer b) v) (acts_of v) (Unit {0}) Unwritten
     decided = cleared opened (opened_buffer b) (λ capacity a. refl) ev (λ h. tt) (λ hx ho hp run other run' other' l lr lo act e. rw (act.0, act.1)
@@ -206,4 +206,4 @@ pub synced-refused : (b : Buffer) {d : Decision} {why : Refusal} {r : Reply} →
 synced-refused b e er = er ∙ sym (synced-no (record { is = e }))
 
 -- for the proofs of functions
-pub ruleset phase_calls = (turned, soundness, tested, fresh-unsound, fresh-bad, fresh-ahead, fresh_meets, clear-unsound, clear-output, clear-spoiled, clear-ahead, clear-output-meets, clear_first, clear_second, positions-acted, positions-still, sync-unsound, sync-phase, sync-spoils, sync-decided, synced-done, synced-value, synced-refused)
+pub ruleset phase_calls = (turned, soundness, tested, fresh-unsound, fresh-bad, fresh-ahead, fresh_meets, clear-unsound, clear-output, clear-spoiled, clear-ahead, clear_output_meets, clear_first, clear_second, positions-acted, positions-still, sync-unsound, sync-phase, sync-spoils, sync-decided, synced-done, synced-value, synced-refused)

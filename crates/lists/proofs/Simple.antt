@@ -5,7 +5,7 @@ use Prim.Native.Nat.{ℕ, ◌+◌, ◌≤◌, ◌<◌}
 use native.Mathlib.Omega.{arith}
 use borrow.Author.Tests.{le-leb, lt-leb, le-ltb, lt-ltb}
 use lib.{Dec.ltb, ListN.length, ListN.take, ListN.drop, ListN.take-append-drop, Seq.slice, Seq.slice_empty, Seq.take-take, Seq.drop-drop}
-use Rattle.records.specs.{Phase, Plain, Output, Positions, Spoiled, Refusal, BadOperand, Limits, Answers.no, Answers.refusal_number, Counters.capacity_of, Counters.rightly_lent, Counters.fresh_limits, Glyphs.Glyph, Glyphs.change, Glyphs.with_position, Glyphs.zero_position, View.glyphs, View.positions_in}
+use Rattle.records.specs.{Phase, Plain, Output, Positions, Spoiled, Refusal, BadOperand, Answers.no, Answers.refusal_number, Counters.capacity_of, Counters.rightly_lent, Counters.fresh_limits, Glyphs.Glyph, Glyphs.change, Glyphs.with_position, Glyphs.zero_position, View.glyphs, View.positions_in}
 use Rattle.records.proofs.View.{glyphs-plain, paired-plain}
 use Rattle.records.proofs.Renaming.{take-map}
 use Rattle.lists.specs.{declared.Buffer.Buffer, declared.Reply.Reply}
@@ -44,10 +44,6 @@ low-level level h = rw (le-leb level 3 h)
 pub high-level : (level : ℕ) → 3 < level → 0 ≡ read_level level
 unfolding read_level
 high-level level h = rw (lt-leb level 3 h)
-
-pub fresh-is : (level wants : ℕ) (l : Limits) → l ≡ fresh_limits → record { idx = record { 0 = 0 }; len = record { 0 = 0 }; out_len = record { 0 = 0 }; phase = Plain; limits = l; level = level; wants = wants; swapped = false; have_separate_output = false } ≡ fresh_buffer level wants
-unfolding fresh_buffer
-fresh-is level wants l e = rw e
 
 pub fresh-refused : (level wants : ℕ) (a : Account ℕ) → 7 < wants → fresh level wants a ≡ refused BadOperand
 unfolding fresh
@@ -89,9 +85,9 @@ module _ (level wants : ℕ) {b : Buffer} {r : Reply} where
     is-sound = fresh-sound level wants;
   })
 
-  pub begins-refused : 7 < wants → b ≡ fresh_buffer level 0 → r ≡ reply b (Err BadOperand) → Begins level wants r
+  pub begins_refused : 7 < wants → b ≡ fresh_buffer level 0 → r ≡ reply b (Err BadOperand) → Begins level wants r
   unfolding outcome
-  begins-refused w eb er = rw (er, eb) (record {
+  begins_refused w eb er = rw (er, eb) (record {
     is = λ f s. sym (ap (outcome (fresh_account level 0)) (fresh-refused level wants _ w) ∙ ap (λ (a : Account ℕ). record { answer = no (refusal_number BadOperand); after = a }) (fresh-account level 0 f s));
     is-sound = fresh-sound level 0;
   })
@@ -180,19 +176,12 @@ opened-held b f s v = record {
 output_in : Bool → Bool → (first second : List (Glyph ℕ)) → List (Glyph ℕ)
 output_in x y f s = cond x (cond y f s) (cond y s f)
 
-flags-second : (x y : Bool) (f s : List (Glyph ℕ)) → not (beq x y) ≡ true → s ≡ output_in x y f s
+flags : (x y : Bool) (f s : List ℕ) → glyphs (cond (not (beq x y)) s f) ≡ output_in x y (glyphs f) (glyphs s)
 unfolding output_in
-flags-second true true f s h = absurd (false≢true h)
-flags-second true false f s h = refl
-flags-second false true f s h = refl
-flags-second false false f s h = absurd (false≢true h)
-
-flags-first : (x y : Bool) (f s : List (Glyph ℕ)) → not (beq x y) ≡ false → f ≡ output_in x y f s
-unfolding output_in
-flags-first true true f s h = refl
-flags-first true false f s h = absurd (false≢true (sym h))
-flags-first false true f s h = absurd (false≢true (sym h))
-flags-first false false f s h = refl
+flags true true f s = refl
+flags true false f s = refl
+flags false true f s = refl
+flags false false f s = refl
 
 module _ (b : Buffer) (f s : List ℕ) where
   done-is : (account b f s).done ≡ take b.out_len.0 (output_in b.swapped b.have_separate_output (glyphs f) (glyphs s))
@@ -208,18 +197,16 @@ module _ {b : Buffer} {f s : List ℕ} {t : Bool} (w : Soundness b f s t) where
   pub out-unsound : {l : List (Glyph ℕ)} → t ≡ false → l ≡ [] → l ≡ cond (sound b f s) (account b f s).done []
   out-unsound h e = rw (is-unsound w h) e
 
-  module _ (h : t ≡ true) where
-    pub out-first-room : b.out_len.0 ≤ length (glyphs f)
-    out-first-room = let v = held_first w h in omega arith
+  module _ (h : t ≡ true) {o : List ℕ} where
+    pub out-room : (x : Bool) → o ≡ cond x s f → b.out_len.0 ≤ length (glyphs o)
+    out-room x e = rw e (by_side x)
+      where
+        by_side : (x : Bool) → b.out_len.0 ≤ length (glyphs (cond x s f))
+        by_side true = let v = held-second w h in omega arith
+        by_side false = let v = held_first w h in omega arith
 
-    pub out-second-room : b.out_len.0 ≤ length (glyphs s)
-    out-second-room = let v = held-second w h in omega arith
-
-    pub out-second : {l : List (Glyph ℕ)} → not (beq b.swapped b.have_separate_output) ≡ true → l ≡ take b.out_len.0 (glyphs s) → l ≡ cond (sound b f s) (account b f s).done []
-    out-second k e = rw (is-sound w h) (e ∙ (ap (take b.out_len.0) (flags-second b.swapped b.have_separate_output (glyphs f) (glyphs s) k) ∙ sym (done-is b f s)))
-
-    pub out_first : {l : List (Glyph ℕ)} → not (beq b.swapped b.have_separate_output) ≡ false → l ≡ take b.out_len.0 (glyphs f) → l ≡ cond (sound b f s) (account b f s).done []
-    out_first k e = rw (is-sound w h) (e ∙ (ap (take b.out_len.0) (flags-first b.swapped b.have_separate_output (glyphs f) (glyphs s) k) ∙ sym (done-is b f s)))
+    pub out-is : {l : List (Glyph ℕ)} → o ≡ cond (not (beq b.swapped b.have_separate_output)) s f → l ≡ take b.out_len.0 (glyphs o) → l ≡ cond (sound b f s) (account b f s).done []
+    out-is eo e = rw (is-sound w h) (e ∙ (ap (λ (ws : List ℕ). take b.out_len.0 (glyphs ws)) eo ∙ (ap (take b.out_len.0) (flags b.swapped b.have_separate_output f s) ∙ sym (done-is b f s))))
 
 -- for the proofs of functions
-pub ruleset out_laws = (out-first-room, out-second-room, out-unsound, out_first, out-second)
+pub ruleset out_laws = (out-room, out-unsound, out-is)

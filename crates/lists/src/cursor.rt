@@ -145,12 +145,9 @@ pub fn move_to(b: Buffer, first: &mut [u32], second: &mut [u32], i: usize) -> Re
 pub fn out_info<'a>(b: Buffer, first: &'a [u32], second: &'a [u32]) -> &'a [u32]
     ensures { (glyphs result.now ≡ cond (sound b first.now second.now) (account b first.now second.now).done []) × (Whole result.now) }
 {
+    let output = swapping::one_of(first, second, b.swapped != b.have_separate_output);
     if state::is_sound(b, first, second) {
-        let n = b.out_len.0;
-        if b.swapped != b.have_separate_output {
-            return records::glyphs::first_of(second, n);
-        }
-        return records::glyphs::first_of(first, n);
+        return records::glyphs::first_of(output, b.out_len.0);
     }
-    records::glyphs::first_of(first, 0)
+    records::glyphs::first_of(output, 0)
 }

@@ -1,7 +1,7 @@
 // Zeros in a range of a slice.
 ghost use Rattle.std.specs.Prelude.{◌≡◌, ◌≤◌, length};
-ghost use Rattle.records.specs.Glyphs.{blank, zero_position};
-ghost use Rattle.records.specs.View.{glyphs, positions_in};
+ghost use Rattle.records.specs.Glyphs.{blank};
+ghost use Rattle.records.specs.View.{glyphs};
 ghost use Rattle.lists.specs.inner.Filled.{filled};
 
 use records::GlyphInfo;
@@ -25,12 +25,4 @@ pub fn zero_glyphs(ws: &mut [u32], s: usize, e: usize)
     ensures { glyphs ws.new ≡ filled (record { glyph = 0; info = blank 0 }) s e (glyphs ws.old) }
 {
     zero::<GlyphInfo>(ws, s, e);
-}
-
-// Of positions.
-pub fn zero_positions(ws: &mut [u32], s: usize, e: usize)
-    requires { (s ≤ e) × (e ≤ length (positions_in ws.old)) }
-    ensures { positions_in ws.new ≡ filled zero_position s e (positions_in ws.old) }
-{
-    zero::<records::Position>(ws, s, e);
 }

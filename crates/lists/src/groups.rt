@@ -9,7 +9,7 @@ use super::ranges;
 use records::Key;
 
 // A glyph with a nonzero key continues its grapheme.
-#[tactic(auto, using(crate::proofs::Runs::running))]
+#[tactic(auto, using(crate::proofs::Runs::running, std::proofs::Common::rules))]
 pub fn grapheme_end(ws: &[u32], s: usize, e: usize, by: Key) -> usize
     requires { (s < e) × (e ≤ length (glyphs ws.now)) }
     ensures { result ≡ s + 1 + heads (isnt 0) (slice (s + 1) e (map (key by.slot by.mask) (infos (glyphs ws.now)))) }

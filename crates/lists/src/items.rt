@@ -1,12 +1,12 @@
 // What a buffer shows, one thing after the other.
-ghost use Rattle.std.specs.Prelude.{◌≡◌, cond, [], map, ◌+◌, ◌≤◌, length, get_or, take};
+ghost use Rattle.std.specs.Prelude.{◌≡◌, cond, [], map, ◌+◌, ◌≤◌, length, slice_get, take, None};
 ghost use Rattle.records.specs.View.{positions_in};
-ghost use Rattle.lists.specs.declared.Item.TheVariants.{OfPosition, Nothing};
+ghost use Rattle.lists.specs.declared.Item.TheVariants.{OfPosition};
 ghost use Rattle.lists.specs.Account.{positions_phase};
 ghost use Rattle.lists.specs.{Contract.account_of, Contract.account, Contract.sound, inner.Held.Held, Contract.gone_of};
 ghost use Rattle.lists.specs.Contract.{items};
 
-use super::{Buffer, Item, state};
+use super::{Buffer, Item, state, swapping};
 
 // How many there are.
 #[tactic(auto, using(crate::proofs::ItemLaws::showing))]
@@ -24,20 +24,21 @@ pub fn item_count(b: Buffer, first: &[u32], second: &[u32]) -> usize
 }
 
 // The k-th position.
-fn position_item(b: Buffer, other: &[u32], k: usize) -> Item
+#[tactic(auto, using(crate::proofs::ItemLaws::placing))]
+fn position_item(b: Buffer, other: &[u32], k: usize) -> Option<Item>
     requires { b.len.0 ≤ length (positions_in other.now) }
-    ensures { result ≡ get_or (map OfPosition (cond (positions_phase b.phase) (take b.len.0 (positions_in other.now)) [])) k Nothing }
+    ensures { result ≡ slice_get (map OfPosition (cond (positions_phase b.phase) (take b.len.0 (positions_in other.now)) [])) k }
 {
     if state::have_positions(b.phase) && k < b.len.0 {
-        return Item::OfPosition(records::positions::get(other, k));
+        return Some(Item::OfPosition(records::positions::get(other, k)));
     }
-    Item::Nothing
+    None
 }
 
 // The k-th of those after the output.
-fn input_item(b: Buffer, run: &[u32], other: &[u32], k: usize) -> Item
+fn input_item(b: Buffer, run: &[u32], other: &[u32], k: usize) -> Option<Item>
     requires { Held b run.now other.now }
-    ensures { result ≡ get_or (items (account_of b run.now other.now)) (b.out_len.0 + k) Nothing }
+    ensures { result ≡ slice_get (items (account_of b run.now other.now)) (b.out_len.0 + k) }
 {
     let from = state::gone(b);
     let n = b.len.0 - from;
@@ -46,37 +47,34 @@ fn input_item(b: Buffer, run: &[u32], other: &[u32], k: usize) -> Item
     }
     let g = records::glyphs::get(run, from + k);
     if from + k < b.idx.0 {
-        return Item::OfPassed(g);
+        return Some(Item::OfPassed(g));
     }
-    Item::OfRest(g)
+    Some(Item::OfRest(g))
 }
 
 // Of the slice that holds the run, and the other.
 #[tactic(auto, using(crate::proofs::ItemLaws::showing))]
-fn item_in(b: Buffer, run: &[u32], other: &[u32], k: usize) -> Item
+fn item_in(b: Buffer, run: &[u32], other: &[u32], k: usize) -> Option<Item>
     requires { Held b run.now other.now }
-    ensures { result ≡ get_or (items (account_of b run.now other.now)) k Nothing }
+    ensures { result ≡ slice_get (items (account_of b run.now other.now)) k }
 {
     let n = b.out_len.0;
     if n <= k {
         return input_item(b, run, other, k - n);
     }
-    if b.have_separate_output {
-        return Item::OfDone(records::glyphs::get(other, k));
-    }
-    Item::OfDone(records::glyphs::get(run, k))
+    let output = swapping::one_of(run, other, b.have_separate_output);
+    Some(Item::OfDone(records::glyphs::get(output, k)))
 }
 
-// The k-th of them, counted from 0.
+// The k-th of them, counted from 0; past the last there is none.
 #[tactic(auto, using(crate::proofs::ItemLaws::showing, crate::proofs::SoundLaws::soundness))]
-pub fn item(b: Buffer, first: &[u32], second: &[u32], k: usize) -> Item
-    ensures { result ≡ cond (sound b first.now second.now) (get_or (items (account b first.now second.now)) k Nothing) Nothing }
+pub fn item(b: Buffer, first: &[u32], second: &[u32], k: usize) -> Option<Item>
+    ensures { result ≡ cond (sound b first.now second.now) (slice_get (items (account b first.now second.now)) k) None }
 {
     if state::is_sound(b, first, second) {
-        if b.swapped {
-            return item_in(b, second, first, k);
-        }
-        return item_in(b, first, second, k);
+        let run = swapping::one_of(first, second, b.swapped);
+        let other = swapping::one_of(second, first, b.swapped);
+        return item_in(b, run, other, k);
     }
-    Item::Nothing
+    None
 }

@@ -76,13 +76,11 @@ pub struct Verdict {
 // What a call comes to: a verdict, or why it is turned back.
 pub type Decision = Result<Verdict, Refusal>;
 
-// One of the things that a buffer shows: a glyph of a list, or a position. `Nothing` is past the last, and prints nothing: who takes an item
-// needs no second case.
+// One of the things that a buffer shows: a glyph of a list, or a position.
 #[derive(Clone, Copy)]
 pub enum Item {
     OfDone(GlyphInfo),
     OfPassed(GlyphInfo),
     OfRest(GlyphInfo),
     OfPosition(Position),
-    Nothing,
 }

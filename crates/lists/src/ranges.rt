@@ -1,23 +1,23 @@
 // Ranges of glyphs: searched, and changed glyph by glyph. A range ends before its end.
 // It is two places and no part of the slice: places count glyphs, and only `records` knows where their words lie.
+// It is no `Range` of std either: one of those may end before its start, so that `s ≤ e` would stand in each contract all the same.
 ghost use Rattle.std.specs.Prelude.{◌≡◌, ◌+◌, ◌-◌, ◌≤◌, length};
 ghost use Rattle.std.proofs.Math.Seq.{slice};
 ghost use Rattle.records.specs.Glyphs.{set_cluster, flagged, flagged_unless};
 ghost use Rattle.records.specs.Ranges.{clusters, edit, is, isnt, least, heads, tails};
 ghost use Rattle.records.specs.View.{glyphs};
 
-// The least cluster of a range.
+use std::cmp;
+
+// The least cluster of a range. Of an empty one it is the largest word, as the account's `least` of an empty list is.
 #[tactic(auto, using(crate::proofs::Runs::running))]
 pub fn least_cluster(ws: &[u32], s: usize, e: usize) -> u32
     requires { (s ≤ e) × (e ≤ length (glyphs ws.now)) }
     ensures { result ≡ least (slice s e (clusters (glyphs ws.now))) }
 {
-    let mut m: u32 = 4294967295;
+    let mut m = u32::MAX;
     for i in (s..e).rev() {
-        let c = records::glyphs::cluster_at(ws, i);
-        if c < m {
-            m = c;
-        }
+        m = cmp::min(m, records::glyphs::cluster_at(ws, i));
     }
     m
 }

@@ -1,7 +1,7 @@
 // Ranges of glyphs, or of positions, the other way round: the two ends are exchanged, towards the middle.
 // The exchanges are counted: LLVM then has one number for the end of the loop.
 ghost use Rattle.std.specs.Prelude.{◌≡◌, ◌<◌, ◌≤◌, length};
-ghost use Rattle.records.specs.View.{glyphs, positions_in};
+ghost use Rattle.records.specs.View.{glyphs};
 ghost use Rattle.lists.specs.inner.Turned.{turned, exchange};
 
 use records::GlyphInfo;
@@ -35,12 +35,4 @@ pub fn reverse_glyphs(ws: &mut [u32], s: usize, e: usize)
     ensures { glyphs ws.new ≡ turned s e (glyphs ws.old) }
 {
     reverse::<GlyphInfo>(ws, s, e);
-}
-
-// Of positions.
-pub fn reverse_positions(ws: &mut [u32], s: usize, e: usize)
-    requires { (s ≤ e) × (e ≤ length (positions_in ws.old)) }
-    ensures { positions_in ws.new ≡ turned s e (positions_in ws.old) }
-{
-    reverse::<records::Position>(ws, s, e);
 }

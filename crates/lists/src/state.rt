@@ -6,7 +6,7 @@ ghost use Rattle.lists.specs.{Contract.gone_of, Contract.in_order, inner.Held.So
 ghost use Rattle.lists.specs.inner.States.{most_output, at_places, lists_of, with_limits_of, fresh_buffer, apart_buffer, opened_buffer, positioned_buffer, swapped_buffer, spoiled_buffer, reply};
 
 use super::{Buffer, Lists, Reply};
-use records::{DonePlace, InputPlace, Limits, Phase, Refusal};
+use records::{Answer, DonePlace, InputPlace, Limits, Phase, Refusal};
 
 pub fn have_output(phase: Phase) -> bool
     ensures { result ≡ output_phase phase }
@@ -55,16 +55,8 @@ fn most_output(b: Buffer) -> usize
 fn in_order(b: Buffer, capacity: usize) -> bool
     ensures { result ≡ in_order b capacity }
 {
-    if b.len.0 < b.idx.0 {
-        return false;
-    }
-    if b.limits.allocated < b.len.0 {
-        return false;
-    }
-    if capacity < b.limits.allocated {
-        return false;
-    }
-    b.out_len.0 <= most_output(b)
+    let size = b.limits.allocated;
+    b.idx.0 <= b.len.0 && b.len.0 <= size && size <= capacity && b.out_len.0 <= most_output(b)
 }
 
 // What refusal 1 tests: counters and lengths only.
@@ -73,10 +65,7 @@ fn in_order(b: Buffer, capacity: usize) -> bool
 pub fn is_sound(b: Buffer, first: &[u32], second: &[u32]) -> bool
     ensures { Soundness b first.now second.now result }
 {
-    if records::glyphs::rightly_lent(first, second) {
-        return in_order(b, records::glyphs::capacity(first));
-    }
-    false
+    records::glyphs::rightly_lent(first, second) && in_order(b, records::glyphs::capacity(first))
 }
 
 // Refusal 1, before all others.
@@ -109,31 +98,11 @@ pub fn room_for(l: Limits, capacity: usize, n: usize) -> Result<bool, Refusal>
     Ok(true)
 }
 
-pub fn refusal(b: Buffer, why: Refusal) -> Reply
-    ensures { result ≡ reply b (Err why) }
+// What a call gives back that leaves this state.
+pub fn reply(b: Buffer, answer: Answer) -> Reply
+    ensures { result ≡ reply b answer }
 {
-    Reply {
-        buffer: b,
-        answer: Err(why),
-    }
-}
-
-pub fn accepted(b: Buffer) -> Reply
-    ensures { result ≡ reply b (Ok None) }
-{
-    Reply {
-        buffer: b,
-        answer: Ok(None),
-    }
-}
-
-pub(crate) fn answered(b: Buffer, value: u32) -> Reply
-    ensures { result ≡ reply b (Ok (Some value)) }
-{
-    Reply {
-        buffer: b,
-        answer: Ok(Some(value)),
-    }
+    Reply { buffer: b, answer }
 }
 
 #[tactic(auto, unfolding(crate::specs::inner::States::with_limits_of))]
@@ -157,7 +126,7 @@ pub fn at_places(b: Buffer, idx: usize, len: usize, out_len: usize) -> Buffer
 }
 
 #[tactic(auto, unfolding(crate::specs::inner::States::fresh_buffer))]
-pub(crate) fn fresh_buffer(level: u32, wants: u32) -> Buffer
+pub fn fresh_buffer(level: u32, wants: u32) -> Buffer
     ensures { result ≡ fresh_buffer level wants }
 {
     Buffer {
@@ -175,13 +144,14 @@ pub(crate) fn fresh_buffer(level: u32, wants: u32) -> Buffer
 
 impl Buffer {
     // The first buffer. Wants over 7 is refusal 4, and the buffer is then the one of wants 0.
+    #[tactic(auto, using(crate::proofs::Simple::begins, crate::proofs::Simple::begins_refused))]
     pub fn new(level: u32, wants: u32) -> Reply
         ensures { Begins level wants result }
     {
         if 7 < wants {
-            return refusal(fresh_buffer(level, 0), Refusal::BadOperand);
+            return reply(fresh_buffer(level, 0), Err(Refusal::BadOperand));
         }
-        accepted(fresh_buffer(level, wants))
+        reply(fresh_buffer(level, wants), Ok(None))
     }
 }
 

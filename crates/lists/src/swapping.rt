@@ -1,11 +1,18 @@
-// Acts on the slice that holds the run and the other one, whichever of the two it is, and the end of a call that acts.
-ghost use Rattle.std.specs.Prelude.{◌≡◌, true, Ok};
+// Which of the two lent slices, acts on the one that holds the run and the other, and the end of a call that acts.
+ghost use Rattle.std.specs.Prelude.{◌≡◌, cond, true, Ok};
 ghost use Rattle.lists.specs.declared.Verdict.{Verdict};
 ghost use Rattle.lists.specs.inner.Verdicts.{Sided, acts_of, limiting_verdict};
 ghost use Rattle.lists.specs.inner.Swapping.{MayAct, ActedOn, CarriedOut};
 
 use super::{Buffer, Decision, Reply, Verdict, state, verdicts};
 use records::Limits;
+
+// The first of two slices, or the second: the state says which as the call runs.
+pub fn one_of<'a>(first: &'a [u32], second: &'a [u32], is_second: bool) -> &'a [u32]
+    ensures { result.now ≡ cond is_second second.now first.now }
+{
+    if is_second { second } else { first }
+}
 
 // Two calls of one act, one for each order: a pair of `&mut` that is chosen first is not covered by the borrow checker.
 pub fn act_on<R, F: FnOnce(&mut [u32], &mut [u32]) -> R>(
@@ -80,6 +87,6 @@ pub fn carry_out<R: Outcome, F: FnOnce(&mut [u32], &mut [u32]) -> R>(
 {
     match decision {
         Ok(v) => carried(b, v, first, second, act),
-        Err(why) => state::refusal(b, why),
+        Err(why) => state::reply(b, Err(why)),
     }
 }

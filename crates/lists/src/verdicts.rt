@@ -24,6 +24,7 @@ pub fn leaves(b: Buffer, acts: bool, value: Option<u32>) -> Decision
 
 // The size is given up, and nothing else happens.
 #[inline(always)]
+#[tactic(auto, unfolding(crate::specs::inner::Verdicts::failed_buffer))]
 pub fn fails(b: Buffer, value: Option<u32>) -> Decision
     ensures { Leaves (failed_buffer b) false value result }
 {
@@ -101,20 +102,18 @@ fn after(b: Buffer, v: Verdict) -> Buffer
 pub(crate) fn replied(b: Buffer, v: Verdict) -> Reply
     ensures { result ≡ settled b (Ok v) }
 {
-    Reply {
-        buffer: after(b, v),
-        answer: Ok(v.value),
-    }
+    state::reply(after(b, v), Ok(v.value))
 }
 
 // The reply, from the state before the call and what it came to.
 #[inline(always)]
+#[tactic(auto, unfolding(crate::specs::inner::Verdicts::settled))]
 pub fn settled(b: Buffer, decision: Decision) -> Reply
     ensures { result ≡ settled b decision }
 {
     match decision {
         Ok(v) => replied(b, v),
-        Err(why) => state::refusal(b, why),
+        Err(why) => state::reply(b, Err(why)),
     }
 }
 
@@ -125,22 +124,23 @@ pub(crate) fn settled_as(b: Buffer, after: Buffer, decision: Decision) -> Reply
     ensures { result ≡ settled_as b after decision }
 {
     if acts(decision) {
-        return state::accepted(after);
+        return state::reply(after, Ok(None));
     }
     settled(b, decision)
 }
 
 // The reply of `sync`: the output as the run, or spoiled.
 #[inline(always)]
+#[tactic(auto, unfolding(crate::specs::inner::Verdicts::synced))]
 pub(crate) fn synced(b: Buffer, decision: Decision) -> Reply
     ensures { result ≡ synced b decision }
 {
     match decision {
         Ok(v) => match v.value {
-            None => state::answered(state::swapped(after(b, v)), 1),
-            Some(x) => state::answered(state::spoiled(b), x),
+            None => state::reply(state::swapped(after(b, v)), Ok(Some(1))),
+            Some(x) => state::reply(state::spoiled(b), Ok(Some(x))),
         },
-        Err(why) => state::refusal(b, why),
+        Err(why) => state::reply(b, Err(why)),
     }
 }
 

@@ -1,5 +1,5 @@
 -- Parts of a string played so far, in a room that has place for a line.
-use mathlib.Core.{Path.◌≡◌, Path.refl, Path.◌∙◌, List.List}
+use mathlib.Core.{Path.◌≡◌, Path.refl, Path.ap, Path.◌∙◌, List.List}
 use Prim.Native.Nat.{ℕ, ◌+◌, ◌<◌, ◌≤◌, ◌^◌}
 use native.Mathlib.Omega.{arith}
 use lib.ListN.{length}
@@ -17,7 +17,7 @@ pub record Parted (t : List ℕ) (b₀ : Buffer) (f₀ s₀ out₀ f s out : Lis
   pub out-len : length out ≡ length out₀
 
 pub parted_none : {t : List ℕ} {b₀ : Buffer} {f₀ s₀ out₀ : List ℕ} {r : Reply} → r ≡ reply b₀ (Ok None) → longest ≤ length out₀ → length t < 2 ^ 64 → Parted t r.buffer f₀ s₀ out₀ f₀ s₀ out₀ (record { reply = r; next = 0; written = 0; commands = 0 }) 0
-parted_none e h fits = record { state = made_none e; room = h; bytes = fits; out-len = refl }
+parted_none e h fits = record { state = made_none (ap (λ (x : Reply). x.answer) e); room = h; bytes = fits; out-len = refl }
 
 module _ {t : List ℕ} {b₀ : Buffer} {f₀ s₀ out₀ f s out : List ℕ} {x : Played} {k : ℕ} (v : Parted t b₀ f₀ s₀ out₀ f s out x k) where
   module _ (h : x.next < length t) {y : Played} {f' s' out' : List ℕ} where

@@ -60,7 +60,7 @@ fn play(b: Buffer, first: &mut [u32], second: &mut [u32], script: &[u8], out: &m
     requires { longest ≤ length out.old }
     ensures { Runs script.now b first.old second.old result first.new second.new }
 {
-    let reply = lists::state::accepted(b);
+    let reply = lists::state::reply(b, Ok(None));
     let mut last = Played {
         reply,
         next: 0,
@@ -90,6 +90,7 @@ pub fn play_fresh(first: &mut [u32], second: &mut [u32], script: &[u8], out: &mu
 
 // A whole program: what answers the commands of standard input prints them as it goes, and gives the length of the text that it
 // leaves at the start of the last room. At most 262,144 bytes are taken; of a longer input nothing is run, and a line says so.
+// It gives nothing back, and its rooms are its own: standard output is all that it changes, so what is promised is said of `answer_all`.
 pub fn program<A: Fn(&mut [u32], &mut [u32], &[u8], &mut [u8]) -> usize>(answer_all: A)
     requires { (first second : _) (script : _) (out : _) → words_for 2048 ≡ length first.now → words_for 2048 ≡ length second.now → 331938 ≡ length out.now → A.pre answer_all first second script out }
 {

@@ -60,8 +60,8 @@ pub got_word : (ws : List ℕ) (c i : ℕ) {at : ℕ} → at ≡ word_place (len
 unfolding word
 got_word ws c i e = ap (λ (k : ℕ). get_or ws k 0) e
 
-pub place_inside : {words c i at : ℕ} → at ≡ word_place words c i → (c < 6) × (i < capacity_of words) → at < words
-place_inside {words} {c} {i} e p = rw e (in-range words c i p.0 p.1)
+pub place_inside : {words c i at : ℕ} → at ≡ word_place words c i → c < 6 → i < capacity_of words → at < words
+place_inside {words} {c} {i} e hc hi = rw e (in-range words c i hc hi)
 
 -- ---- a word that is written
 put_word : (ws : List ℕ) (c i v : ℕ) → c < 6 → i < capacity_of (length ws) → Put ws (set ws (word_place (length ws) c i) v) c i v
@@ -76,8 +76,8 @@ put_word ws c i v hc hi =
       rest = λ d j hd hj n. rw (length-set ws at v) (get_or-set_other ws at (word_place (length ws) d j) v 0 (λ e. let p = apart (length ws) d j c i hd hc hj hi e in n p.0 p.1));
     }
 
-pub was-put : {ws : List ℕ} {c i at v : ℕ} → at ≡ word_place (length ws) c i → (c < 6) × (i < capacity_of (length ws)) → Put ws (set ws at v) c i v
-was-put {ws} {c} {i} {at} {v} e p = rw e (put_word ws c i v p.0 p.1)
+pub was-put : {ws : List ℕ} {c i at v : ℕ} → at ≡ word_place (length ws) c i → c < 6 → i < capacity_of (length ws) → Put ws (set ws at v) c i v
+was-put {ws} {c} {i} {at} {v} e hc hi = rw e (put_word ws c i v hc hi)
 
 pub put-place : {ws ws' : List ℕ} {c i v : ℕ} → Put ws ws' c i v → i < capacity_of (length ws')
 put-place {ws} {ws'} p = rw p.len p.inside

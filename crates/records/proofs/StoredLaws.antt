@@ -5,7 +5,7 @@ use Rattle.std.proofs.lemmas.List.{map-set}
 use native.Mathlib.Nat.{le_of_suc-le-suc, not-suc-le-zero}
 use lib.{ListN.length, ListN.get_or, ListN.set, ListN.get_or-map}
 use Rattle.records.specs.{declared.GlyphInfo.GlyphInfo}
-use Rattle.records.specs.Glyphs.{Glyph, blank}
+use Rattle.records.specs.Glyphs.{Glyph}
 use Rattle.records.specs.View.{rows, made, glyph_of, glyphs, seen, stored}
 use Rattle.records.specs.inner.Stores.{zero_glyph, blank_info}
 use Rattle.records.proofs.View.{stored-seen}
@@ -16,10 +16,6 @@ get_or-any (x ∷ l) zero d d' h = refl
 get_or-any (x ∷ l) (suc i) d d' h = get_or-any l i d d' (le_of_suc-le-suc h)
 
 -- ---- what the functions of glyphs come to on structs
-pub blank-stored : {g : GlyphInfo} → seen g ≡ record { glyph = 0; info = blank 0 } → g ≡ blank_info
-unfolding blank_info blank stored seen glyph_of
-blank-stored {g} e = sym (stored-seen g) ∙ ap stored e
-
 pub got-stored : (l : List (Glyph ℕ)) (i : ℕ) {g : GlyphInfo} → i < length (map stored l) → seen g ≡ get_or l i zero_glyph → g ≡ get_or (map stored l) i blank_info
 got-stored l i {g} h e = sym (stored-seen g) ∙ (ap stored e ∙ (sym (get_or-map stored l i zero_glyph) ∙ get_or-any (map stored l) i (stored zero_glyph) blank_info h))
 
@@ -37,4 +33,4 @@ unfolding glyphs
 glyphs-seen ws = seen-made (rows ws)
 
 -- for the proofs of functions
-pub ruleset storing = (blank-stored, got-stored, put-stored)
+pub ruleset storing = (got-stored, put-stored)

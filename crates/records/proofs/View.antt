@@ -108,17 +108,17 @@ module _ (f s : List ℕ) (h : rightly_lent (length f) (length s) ≡ true) wher
   pub lent-most : capacity_of (length f) ≤ 1048576
   lent-most = leb-true _ _ parts.2
 
-pub take-glyphs : (n : ℕ) (ws : List ℕ) → n ≤ length (glyphs ws) → glyphs (take (6 * n) ws) ≡ take n (glyphs ws)
+pub take_glyphs : (n : ℕ) (ws : List ℕ) → n ≤ length (glyphs ws) → glyphs (take (6 * n) ws) ≡ take n (glyphs ws)
 unfolding glyphs
-take-glyphs n ws h = ap (map (made glyph_of)) (take-rows n ws (rw (length-glyphs ws) at h)) ∙ sym (take-map (made glyph_of) n (rows ws))
+take_glyphs n ws h = ap (map (made glyph_of)) (take-rows n ws (rw (length-glyphs ws) at h)) ∙ sym (take-map (made glyph_of) n (rows ws))
 
-pub take-room : (n : ℕ) (ws : List ℕ) → n ≤ length (glyphs ws) → 6 * n ≤ length ws
+pub take_room : (n : ℕ) (ws : List ℕ) → n ≤ length (glyphs ws) → 6 * n ≤ length ws
 unfolding capacity_of
-take-room n ws h = omega (arith, length-glyphs ws)
+take_room n ws h = omega (arith, length-glyphs ws)
 
 pub take_whole : (n : ℕ) (ws : List ℕ) → n ≤ length (glyphs ws) → Whole (take (6 * n) ws)
 unfolding Whole
-take_whole n ws h = omega (arith, length-take-le (6 * n) ws (take-room n ws h))
+take_whole n ws h = omega (arith, length-take-le (6 * n) ws (take_room n ws h))
 
 -- glyphs in a slice have no position; with positions, they have again none once these are taken away
 plain_rows : (l : List (List ℕ)) → map (change (with_position zero_position)) (map (made glyph_of) l) ≡ map (made glyph_of) l

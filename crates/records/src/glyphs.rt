@@ -7,6 +7,7 @@ ghost use Rattle.records.specs.Glyphs.{blank, change, set_cluster, with_cluster,
 ghost use Rattle.records.specs.Ranges.{clusters};
 ghost use Rattle.records.specs.{View.glyphs, View.Whole, View.seen, inner.Stores.zero_glyph};
 
+use super::words::GlyphWord;
 use super::{GlyphInfo, Key, words};
 
 // How many glyphs a slice holds.
@@ -22,25 +23,20 @@ pub fn capacity(ws: &[u32]) -> usize
 pub fn rightly_lent(first: &[u32], second: &[u32]) -> bool
     ensures { result ≡ rightly_lent (length first.now) (length second.now) }
 {
-    if first.len() != second.len() {
-        return false;
-    }
-    if first.len() % words::WORDS != 0 {
-        return false;
-    }
-    first.len() / words::WORDS <= 1048576
+    let n = first.len();
+    n == second.len() && n % words::WORDS == 0 && capacity(first) <= 1048576
 }
 
 pub fn get(ws: &[u32], i: usize) -> GlyphInfo
     requires { i < length (glyphs ws.now) }
     ensures { seen result ≡ slice_index_or (glyphs ws.now) i zero_glyph }
 {
-    let glyph = words::word_at(ws, 0, i);
-    let mask = words::word_at(ws, 1, i);
-    let cluster = words::word_at(ws, 2, i);
-    let var0 = words::word_at(ws, 3, i);
-    let var1 = words::word_at(ws, 4, i);
-    let origin = words::word_at(ws, 5, i);
+    let glyph = words::word_at(ws, GlyphWord::Glyph, i);
+    let mask = words::word_at(ws, GlyphWord::Mask, i);
+    let cluster = words::word_at(ws, GlyphWord::Cluster, i);
+    let var0 = words::word_at(ws, GlyphWord::Var0, i);
+    let var1 = words::word_at(ws, GlyphWord::Var1, i);
+    let origin = words::word_at(ws, GlyphWord::Origin, i);
     GlyphInfo {
         glyph,
         mask,
@@ -55,12 +51,12 @@ pub fn put(ws: &mut [u32], i: usize, g: GlyphInfo)
     requires { i < length (glyphs ws.old) }
     ensures { glyphs ws.new ≡ slice_set (glyphs ws.old) i (seen g) }
 {
-    words::put_word(ws, 0, i, g.glyph);
-    words::put_word(ws, 1, i, g.mask);
-    words::put_word(ws, 2, i, g.cluster);
-    words::put_word(ws, 3, i, g.var0);
-    words::put_word(ws, 4, i, g.var1);
-    words::put_word(ws, 5, i, g.origin);
+    words::put_word(ws, GlyphWord::Glyph, i, g.glyph);
+    words::put_word(ws, GlyphWord::Mask, i, g.mask);
+    words::put_word(ws, GlyphWord::Cluster, i, g.cluster);
+    words::put_word(ws, GlyphWord::Var0, i, g.var0);
+    words::put_word(ws, GlyphWord::Var1, i, g.var1);
+    words::put_word(ws, GlyphWord::Origin, i, g.origin);
 }
 
 // A glyph with a number and a cluster, and 0 elsewhere.
@@ -70,11 +66,8 @@ pub fn blank(number: u32, cluster: u32) -> GlyphInfo
 {
     GlyphInfo {
         glyph: number,
-        mask: 0,
         cluster,
-        var0: 0,
-        var1: 0,
-        origin: 0,
+        ..GlyphInfo::default()
     }
 }
 
@@ -82,23 +75,21 @@ pub fn blank(number: u32, cluster: u32) -> GlyphInfo
 pub fn with_origin(g: GlyphInfo, origin: u32) -> GlyphInfo
     ensures { seen result ≡ change (with_origin origin) (seen g) }
 {
-    let mut r = g;
-    r.origin = origin;
-    r
+    GlyphInfo { origin, ..g }
 }
 
 pub fn cluster_at(ws: &[u32], i: usize) -> u32
     requires { i < length (glyphs ws.now) }
     ensures { result ≡ slice_index_or (clusters (glyphs ws.now)) i 4294967295 }
 {
-    words::word_at(ws, 2, i)
+    words::word_at(ws, GlyphWord::Cluster, i)
 }
 
 pub fn mask_at(ws: &[u32], i: usize) -> u32
     requires { i < length (glyphs ws.now) }
     ensures { result ≡ (get_or (glyphs ws.now) i zero_glyph).info.mask }
 {
-    words::word_at(ws, 1, i)
+    words::word_at(ws, GlyphWord::Mask, i)
 }
 
 // One of the two variables of a glyph, under a mask.
@@ -107,9 +98,9 @@ pub fn key_at(ws: &[u32], i: usize, by: Key) -> u32
     ensures { result ≡ key by.slot by.mask (get_or (glyphs ws.now) i zero_glyph).info }
 {
     if by.slot == 0 {
-        return by.mask & words::word_at(ws, 3, i);
+        return by.mask & words::word_at(ws, GlyphWord::Var0, i);
     }
-    by.mask & words::word_at(ws, 4, i)
+    by.mask & words::word_at(ws, GlyphWord::Var1, i)
 }
 
 // The low three bits of the given mask are taken only where the cluster changes.
@@ -117,10 +108,10 @@ pub fn set_cluster(ws: &mut [u32], i: usize, cluster: u32, mask: u32)
     requires { i < length (glyphs ws.old) }
     ensures { glyphs ws.new ≡ slice_set (glyphs ws.old) i (change (set_cluster cluster mask) (slice_index_or (glyphs ws.old) i zero_glyph)) }
 {
-    if words::word_at(ws, 2, i) != cluster {
-        let old = words::word_at(ws, 1, i);
-        words::put_word(ws, 1, i, old / 8 * 8 + mask % 8);
-        words::put_word(ws, 2, i, cluster);
+    if words::word_at(ws, GlyphWord::Cluster, i) != cluster {
+        let old = words::word_at(ws, GlyphWord::Mask, i);
+        words::put_word(ws, GlyphWord::Mask, i, old / 8 * 8 + mask % 8);
+        words::put_word(ws, GlyphWord::Cluster, i, cluster);
     }
 }
 
@@ -129,22 +120,22 @@ pub fn reset_cluster(ws: &mut [u32], i: usize, cluster: u32)
     requires { i < length (glyphs ws.old) }
     ensures { glyphs ws.new ≡ slice_set (glyphs ws.old) i (change (with_cluster cluster) (slice_index_or (glyphs ws.old) i zero_glyph)) }
 {
-    words::put_word(ws, 2, i, cluster);
+    words::put_word(ws, GlyphWord::Cluster, i, cluster);
 }
 
 pub fn set_mask(ws: &mut [u32], i: usize, mask: u32)
     requires { i < length (glyphs ws.old) }
     ensures { glyphs ws.new ≡ slice_set (glyphs ws.old) i (change (with_mask mask) (slice_index_or (glyphs ws.old) i zero_glyph)) }
 {
-    words::put_word(ws, 1, i, mask);
+    words::put_word(ws, GlyphWord::Mask, i, mask);
 }
 
 pub fn or_mask(ws: &mut [u32], i: usize, bits: u32)
     requires { i < length (glyphs ws.old) }
     ensures { glyphs ws.new ≡ slice_set (glyphs ws.old) i (change (flagged bits) (slice_index_or (glyphs ws.old) i zero_glyph)) }
 {
-    let old = words::word_at(ws, 1, i);
-    words::put_word(ws, 1, i, bits | old);
+    let old = words::word_at(ws, GlyphWord::Mask, i);
+    words::put_word(ws, GlyphWord::Mask, i, bits | old);
 }
 
 // Bits of the mask are set, unless the glyph has a cluster.
@@ -158,6 +149,7 @@ pub fn or_mask_unless(ws: &mut [u32], i: usize, cluster: u32, bits: u32)
 }
 
 // The first n glyphs of a slice.
+#[tactic(auto, using(crate::proofs::View::take_room, crate::proofs::View::take_glyphs, crate::proofs::View::take_whole, std::proofs::Common::rules))]
 pub fn first_of(ws: &[u32], n: usize) -> &[u32]
     requires { n ≤ length (glyphs ws.now) }
     ensures { (glyphs result.now ≡ take n (glyphs ws.now)) × (Whole result.now) }

@@ -7,6 +7,7 @@
 pub mod bytes;
 pub mod counters;
 pub mod glyphs;
+pub mod operands;
 pub mod positions;
 pub mod refusals;
 pub mod stored;
@@ -30,7 +31,7 @@ pub struct DonePlace(pub usize);
 pub struct InputPlace(pub usize);
 
 // A glyph: six words.
-#[derive(Clone, Copy)]
+#[derive(Clone, Copy, Default)]
 pub struct GlyphInfo {
     pub glyph: u32,
     pub mask: u32,
@@ -42,7 +43,7 @@ pub struct GlyphInfo {
 }
 
 // A position: six words, the first four of them signed, the last free.
-#[derive(Clone, Copy)]
+#[derive(Clone, Copy, Default)]
 pub struct Position {
     pub x_advance: u32,
     pub y_advance: u32,

@@ -12,6 +12,7 @@ pub trait Stored: Copy {
 
     ghost blank: { Self };
 
+    // `default`, of which `Default` itself promises nothing to a caller that does not know the type.
     fn zero() -> Self
         ensures { result ≡ blank };
 
@@ -29,9 +30,9 @@ impl Stored for GlyphInfo {
 
     ghost blank = { blank_info };
 
-    #[tactic(auto, using(crate::proofs::StoredLaws::storing))]
+    #[tactic(auto, unfolding(crate::specs::inner::Stores::blank_info))]
     fn zero() -> GlyphInfo {
-        super::glyphs::blank(0, 0)
+        GlyphInfo::default()
     }
 
     #[tactic(auto, using(crate::proofs::StoredLaws::storing))]
@@ -50,8 +51,9 @@ impl Stored for Position {
 
     ghost blank = { zero_position };
 
+    #[tactic(auto, unfolding(crate::specs::Glyphs::zero_position))]
     fn zero() -> Position {
-        super::positions::zero()
+        Position::default()
     }
 
     fn get(ws: &[u32], i: usize) -> Position {

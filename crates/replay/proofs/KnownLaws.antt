@@ -1,53 +1,53 @@
 -- What harfrust has of a line: its first fields, found by their spaces.
 use mathlib.Core.{Path.◌≡◌, Path.refl, Path.sym, Path.ap, Path.◌∙◌, Bool.Bool, Bool.cond, Bool.true, Bool.false, List.List, List.[], List.◌∷◌, List.◌++◌}
 use Rattle.std.proofs.Common.{ℕ, zero, suc, ◌+◌, ◌-◌, ◌<◌, ◌≤◌, add-one, arith, le-ltb, lt-ltb, eq-eqb, ne_eqb}
-use Rattle.std.specs.List.{starts_with}
+use Rattle.std.specs.List.{starts_with, enumerate_from, filter, slice_get}
+use Rattle.std.specs.Prelude.{Option, Some, None}
+use Rattle.std.specs.Option.{option_map}
 use Rattle.std.proofs.lemmas.{Bool.Decides.Decides-eqb, Slice.Eq.starts_is}
-use lib.{Dec.eqb, Dec.ltb, ListN.length, ListN.get_or, ListN.take, ListN.drop, ListN.set, ListN.drop_of_length-le, Seq.drop-cons, Seq.take-suc-set}
+use lib.{Dec.eqb, Dec.ltb, ListN.length, ListN.get_or, ListN.take, ListN.drop, ListN.set, Seq.take-suc-set}
 use Rattle.commands.specs.Texts.{Prints}
 use Rattle.replay.proofs.Bytes.{printed}
 use Rattle.replay.specs.Lines.{space_at, first_fields, known, theirs, Checked}
 use Rattle.replay.specs.declared.Tally.{Tally}
 
 -- ---- spaces
--- a space where some are to be passed, and any other byte
-at-space : (l : List ℕ) (n : ℕ) → (n ≡ 0 → ⊥) → space_at n (32 ∷ l) ≡ suc (space_at (n - 1) l)
+-- the spaces of a line, each with its place, whose first byte stands at k
+abbrev pub is-space : ℕ × ℕ → Bool
+is-space p = eqb p.1 32
+
+abbrev pub spaces : ℕ → List ℕ → List (ℕ × ℕ)
+spaces k line = filter is-space (enumerate_from k line)
+
+-- the one that was sought, or none
+abbrev pub Sought : (k n : ℕ) → List ℕ → Option (ℕ × ℕ) → Type 0
+Sought k n line None = length line ≡ space_at n line
+Sought k n line (Some p) = p.0 ≡ k + space_at n line
+
+passed : (k m n c : ℕ) (l : List ℕ) (r : Option (ℕ × ℕ)) → space_at n (c ∷ l) ≡ suc (space_at m l) → Sought (k + 1) m l r → Sought k n (c ∷ l) r
+passed k m n c l None e s = omega (arith, e, s)
+passed k m n c l (Some p) e s = omega (arith, e, s)
+
+-- the line's first byte, and those behind it
+after : (k c : ℕ) (l : List ℕ) → ((m : ℕ) → Sought (k + 1) m l (slice_get (spaces (k + 1) l) m))
+    → (x : Bool) → eqb c 32 ≡ x → (n : ℕ) → Sought k n (c ∷ l) (slice_get (cond x ((k, c) ∷ spaces (k + 1) l) (spaces (k + 1) l)) n)
 unfolding space_at
-at-space l zero h = absurd (h refl)
-at-space l (suc n) h = ap (λ (k : ℕ). suc (space_at k l)) (omega arith)
+after k c l behind true e zero = rw e (omega arith)
+after k c l behind true e (suc m) = passed k m (suc m) c l _ (rw e refl) (behind m)
+after k c l behind false e zero = passed k zero zero c l _ (rw e refl) (behind zero)
+after k c l behind false e (suc m) = passed k (suc m) (suc m) c l _ (rw e refl) (behind (suc m))
 
-at_other : (c : ℕ) (l : List ℕ) (n : ℕ) → (c ≡ 32 → ⊥) → space_at n (c ∷ l) ≡ suc (space_at n l)
+pub sought : (k n : ℕ) (l : List ℕ) → Sought k n l (slice_get (spaces k l) n)
 unfolding space_at
-at_other c l zero h = rw (ne_eqb c 32 h) refl
-at_other c l (suc n) h = rw (ne_eqb c 32 h) refl
+sought k n [] = refl
+sought k n (c ∷ l) = after k c l (λ m. sought (k + 1) m l) (eqb c 32) refl n
 
--- i bytes were passed, and `left` spaces more are to be passed
-pub record Seeking (n : ℕ) (line : List ℕ) (left i : ℕ) : Type 0 where
-  pub to-go : i + space_at left (drop i line) ≡ space_at n line
+module _ {A : Type 0} (v : A → ℕ × ℕ) (line : List ℕ) (n : ℕ) (r : Option A) (e : option_map v r ≡ slice_get (spaces 0 line) n) where
+  pub found_none : r ≡ None → length line ≡ space_at n line
+  found_none h = let s : Sought 0 n line (slice_get (spaces 0 line) n) = sought 0 n line in rw (← e, h) at s
 
-pub seek-none : {n : ℕ} {line : List ℕ} → Seeking n line n 0
-seek-none = record { to-go = omega arith }
-
-module _ {n : ℕ} {line : List ℕ} {left i : ℕ} (v : Seeking n line left i) where
-  module _ (h : i < length line) where
-    here : drop i line ≡ get_or line i 0 ∷ drop (i + 1) line
-    here = rw add-one (drop-cons line i 0 h)
-
-    pub seek_found : get_or line i 0 ≡ 32 → left ≡ 0 → i ≡ space_at n line
-    unfolding space_at
-    seek_found s e = let none : space_at left (drop i line) ≡ 0 = rw (here, s, e) refl in omega (arith, v.to-go)
-
-    pub seek-space : get_or line i 0 ≡ 32 → (left ≡ 0 → ⊥) → Seeking n line (left - 1) (i + 1)
-    seek-space s e = let one : space_at left (drop i line) ≡ suc (space_at (left - 1) (drop (i + 1) line)) = rw (here, s) (at-space (drop (i + 1) line) left e) in record { to-go = omega (arith, v.to-go) }
-
-    pub seek-other : (get_or line i 0 ≡ 32 → ⊥) → Seeking n line left (i + 1)
-    seek-other s = let one : space_at left (drop i line) ≡ suc (space_at left (drop (i + 1) line)) = rw here (at_other (get_or line i 0) (drop (i + 1) line) left s) in record { to-go = omega (arith, v.to-go) }
-
-  pub seek-end : length line ≤ i → i ≤ length line → length line ≡ space_at n line
-  unfolding space_at
-  seek-end h within = let none : space_at left (drop i line) ≡ 0 = rw (drop_of_length-le line h) refl in omega (arith, v.to-go)
-
-pub ruleset seeking = (seek_found, seek-space, seek-other, seek-end)
+  pub found_at : {x : A} → r ≡ Some x → (v x).0 ≡ space_at n line
+  found_at {x} h = let s : Sought 0 n line (option_map v (Some x)) = rw (← e, h) at (sought 0 n line) in omega (arith, s)
 
 -- ---- fields
 some-fields : (line : List ℕ) (n : ℕ) → (n ≡ 0 → ⊥) → let at = space_at (n - 1) line in first_fields n line ≡ cond (ltb at (length line)) (take at line ++ (10 ∷ [])) line

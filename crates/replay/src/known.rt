@@ -2,7 +2,7 @@
 ghost use Rattle.std.specs.Prelude.{◌≡◌};
 ghost use Rattle.replay.specs.Lines.{space_at, first_fields, known, theirs};
 
-// How many fields of a line harfrust has, at least one but for a line that it lacks.
+// How many fields of a line harfrust has. Of a line that it lacks it has none, which is a count as well: `cut` gives no byte then.
 #[tactic(auto, using(crate::proofs::KnownLaws::known_sum, crate::proofs::KnownLaws::known_other))]
 fn known(line: &[u8]) -> usize
     ensures { result ≡ known line.now }
@@ -14,20 +14,14 @@ fn known(line: &[u8]) -> usize
 }
 
 // Where the space with n spaces before it stands, or the line's end.
-#[tactic(auto, using(crate::proofs::KnownLaws::seeking))]
 fn space_at(line: &[u8], n: usize) -> usize
     ensures { result ≡ space_at n line.now }
 {
-    let mut left = n;
-    for (i, byte) in line.iter().enumerate() {
-        if *byte == b' ' {
-            if left == 0 {
-                return i;
-            }
-            left -= 1;
-        }
+    let mut spaces = line.iter().enumerate().filter(|(_, byte)| **byte == b' ');
+    match spaces.nth(n) {
+        Some((i, _)) => i,
+        None => line.len(),
     }
-    line.len()
 }
 
 // The first n fields of a line, which ends behind them.

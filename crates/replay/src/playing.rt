@@ -4,6 +4,7 @@ use super::reading::{Input, Stored, Unreadable};
 use commands::{Step, steps};
 
 // A list's commands, and what the buffer shows after them.
+#[tactic(auto, using(commands::proofs::MadeLaws::running))]
 fn play(tally: &mut Tally, first: &mut [u32], second: &mut [u32], list: Stored<'_>) {
     let reply = lists::Buffer::new(0, 0);
     let mut last = Step { reply, next: 0 };

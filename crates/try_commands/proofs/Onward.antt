@@ -1,11 +1,10 @@
 -- What a reader takes moves it on, up to the end of its bytes.
-use mathlib.Core.{Path.◌≡◌, Path.◌∙◌, Path.sym, Bool.Bool, Bool.true, Bool.not, List.List}
+use mathlib.Core.{Path.◌≡◌, List.List}
 use Prim.Native.Nat.{ℕ, ◌-◌, ◌<◌}
 use native.Mathlib.Omega.{arith}
-use lib.{Dec.leb, ListN.length}
-use borrow.Author.Tests.{leb-false, not-true}
+use lib.ListN.{length}
 use Rattle.std.specs.Prelude.{Option, Some, None}
-use Rattle.commands.specs.{declared.Order.Order, declared.Taken.Taken}
+use Rattle.commands.specs.{declared.Order.Order, declared.Script.Script}
 use Rattle.commands.specs.{Reading.Reads, Reading.place_after, Reading.Takes}
 
 past-it : (s : List ℕ) (at n : ℕ) (x : Option Order) → Reads s at x → n ≡ place_after s x → at < length s → at < n
@@ -13,11 +12,7 @@ unfolding place_after
 past-it s at n None x e h = omega (arith, e, h)
 past-it s at n (Some o) x e h = omega (arith, e, (x.places h).onward)
 
-module _ {s : List ℕ} {at : ℕ} {t : Taken} {r : Bool} (x : Takes s at t) (e : r ≡ leb (length s) at) (go : not r ≡ true) where
-  pub not-over : at < length s
-  not-over = leb-false (length s) at (sym e ∙ not-true r go)
-
-  pub moves-on : length s - t.next < length s - at
-  moves-on = omega (arith, not-over, past-it s at t.next t.reading x.reads x.next-is not-over)
-
-pub ruleset onward = (not-over, moves-on)
+pub moves_on : {s t : Script} {x : Option Order} → s.place < length s.bytes.now → t.bytes ≡ s.bytes
+    → Takes s.bytes.now s.place (record { reading = x; next = t.place })
+    → length t.bytes.now - t.place < length s.bytes.now - s.place
+moves_on {s} {t} {x} h same took = rw same (omega (arith, h, past-it s.bytes.now s.place t.place x took.reads took.next-is h))

@@ -6,7 +6,7 @@
 ghost use Rattle.std.specs.Prelude.{◌<◌, length};
 
 use calls::Call;
-use commands::Order;
+use commands::{Order, Script, scripts};
 use lists::Buffer;
 use records::{Answer, Refusal};
 
@@ -14,7 +14,6 @@ use records::{Answer, Refusal};
 const WORDS: usize = 16 * records::words::WORDS;
 
 mod calls;
-mod reading;
 
 // A command that the list lacks is answered as one that cannot be read.
 fn carry_out(
@@ -29,13 +28,12 @@ fn carry_out(
 }
 
 // The byte that a command's line names.
-fn byte_at(list: &[u8], at: usize) -> u8
-    requires { at < length list.now }
+fn byte_at(reader: Script<'_>) -> u8
+    requires { reader.place < length reader.bytes.now }
 {
-    let found = reading::peek(list, at);
-    match found {
+    match scripts::next(reader) {
         Some(o) => o.byte,
-        None => list[at],
+        None => reader.bytes[reader.place],
     }
 }
 
@@ -52,17 +50,15 @@ fn print_report(b: Buffer, first: &[u32], second: &[u32]) {
 }
 
 // The commands of a list, each with its answer printed.
-#[tactic(auto, using(crate::proofs::Onward::onward))]
+#[tactic(auto, using(crate::proofs::Onward::moves_on))]
 fn play(b: &mut Buffer, first: &mut [u32], second: &mut [u32], list: &[u8]) {
-    let mut at = reading::start(list);
+    let mut reader = scripts::begin(list);
     // Each command says where the next one starts.
-    while !reading::is_over(list, at) {
-        let taken = reading::take(list, at);
-        let byte = byte_at(list, at);
-        let found = taken.reading;
+    while !scripts::ended(reader) {
+        let byte = byte_at(reader);
+        let found = scripts::take_next(&mut reader);
         let answer = carry_out(b, first, second, found);
         print_answer(byte, answer);
-        at = taken.next;
     }
 }
 

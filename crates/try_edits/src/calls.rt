@@ -6,22 +6,10 @@ use edits::{
     replacing, reversing, sorting, writing,
 };
 use lists::{Buffer, Reply, cursor, state};
+use records::operands::bound;
 use records::{DonePlace, GlyphInfo, InputPlace, Refusal};
 
-fn input(n: u32) -> InputPlace {
-    InputPlace(n as usize)
-}
-
-fn done(n: u32) -> DonePlace {
-    DonePlace(n as usize)
-}
-
-// The largest number is an open bound.
-fn bound<P: Copy>(n: u32, place: P) -> Option<P> {
-    if n == u32::MAX { None } else { Some(place) }
-}
-
-// The operands of 0C: a glyph.
+// The operands of 0C: a glyph. No function of five words, shared with commands: here each word stands beside its name.
 fn glyph(c: Call) -> GlyphInfo {
     GlyphInfo {
         glyph: c.v,
@@ -33,37 +21,47 @@ fn glyph(c: Call) -> GlyphInfo {
     }
 }
 
-// 15 to 19.
+// 15 to 19, between bounds.
 fn flag(b: Buffer, first: &mut [u32], second: &mut [u32], c: Call) -> Reply {
-    let (start, end) = (bound(c.v, input(c.v)), bound(c.w, input(c.w)));
-    let from = bound(c.v, done(c.v));
+    let (start, end) = (
+        bound(c.v, InputPlace::from(c.v)),
+        bound(c.w, InputPlace::from(c.w)),
+    );
+    let from = bound(c.v, DonePlace::from(c.v));
     match c.number {
         0x15 => flagging::unsafe_to_break(b, first, second, start, end),
         0x16 => flagging::unsafe_to_concat(b, first, second, start, end),
         0x17 => flagging::safe_to_insert_tatweel(b, first, second, start, end),
         0x18 => flagging::unsafe_to_break_from_outbuffer(b, first, second, from, end),
-        0x19 => flagging::unsafe_to_concat_from_outbuffer(b, first, second, from, end),
-        _ => state::refusal(b, Refusal::Unreadable),
+        _ => flagging::unsafe_to_concat_from_outbuffer(b, first, second, from, end),
     }
 }
 
-// 11 to 14, between two places.
-fn merge(b: Buffer, first: &mut [u32], second: &mut [u32], c: Call) -> Reply {
-    let (start, end) = (input(c.v), input(c.w));
-    let (from, to) = (done(c.v), done(c.w));
+// The numbers of 0E are always three.
+pub(crate) fn call(b: Buffer, first: &mut [u32], second: &mut [u32], c: Call) -> Reply {
+    let n = c.v as usize;
+    let (start, end) = (InputPlace::from(c.v), InputPlace::from(c.w));
+    let (from, to) = (DonePlace::from(c.v), DonePlace::from(c.w));
     match c.number {
+        0x01 => filling::push(b, first, second, c.v, c.w),
+        0x02 => filling::set_length(b, first, second, n),
+        0x03 => cursor::clear_output(b, first, second),
+        0x04 => cursor::sync(b, first, second),
+        0x05 => cursor::clear_positions(b, first, second),
+        0x06 => filling::place(b, first, second, start, c.w, c.x, c.y, c.z),
+        0x08 => cursor::next_glyphs(b, first, second, n),
+        0x09 => cursor::skip_glyph(b, first, second),
+        0x0A => writing::copy_glyph(b, first, second),
+        0x0B => writing::output_glyph(b, first, second, c.v),
+        0x0C => writing::output_info(b, first, second, glyph(c)),
+        0x0D => replacing::replace_glyph(b, first, second, c.v),
+        0x0E => replacing::replace_glyphs(b, first, second, n, c.w as usize, &[90, 91, 92]),
+        0x0F => deleting::delete_glyph(b, first, second),
         0x11 => merges::merge_clusters(b, first, second, start, end),
         0x12 => merges::merge_out_clusters(b, first, second, from, to),
         0x13 => merges::merge_grapheme_clusters(b, first, second, start, end),
         0x14 => merges::merge_out_grapheme_clusters(b, first, second, from, to),
-        _ => flag(b, first, second, c),
-    }
-}
-
-// 1A to 23.
-fn arrange(b: Buffer, first: &mut [u32], second: &mut [u32], c: Call) -> Reply {
-    let (start, end) = (input(c.v), input(c.w));
-    match c.number {
+        0x15..=0x19 => flag(b, first, second, c),
         0x1A => relabeling::set_masks(b, first, second, c.v, c.w, c.x, c.y),
         0x1B => reversing::reverse(b, first, second),
         0x1C => reversing::reverse_range(b, first, second, start, end),
@@ -74,35 +72,6 @@ fn arrange(b: Buffer, first: &mut [u32], second: &mut [u32], c: Call) -> Reply {
         0x21 => deleting_inplace::delete_glyphs_inplace(b, first, second, c.v, c.w, c.x),
         0x22 => grouping::form_clusters(b, first, second, c.v, c.w),
         0x23 => propagating::propagate_flags(b, first, second),
-        _ => merge(b, first, second, c),
-    }
-}
-
-// 0A to 0F; the numbers of 0E are always three.
-fn write(b: Buffer, first: &mut [u32], second: &mut [u32], c: Call) -> Reply {
-    let (inputs, outputs) = (c.v as usize, c.w as usize);
-    match c.number {
-        0x0A => writing::copy_glyph(b, first, second),
-        0x0B => writing::output_glyph(b, first, second, c.v),
-        0x0C => writing::output_info(b, first, second, glyph(c)),
-        0x0D => replacing::replace_glyph(b, first, second, c.v),
-        0x0E => replacing::replace_glyphs(b, first, second, inputs, outputs, &[90, 91, 92]),
-        0x0F => deleting::delete_glyph(b, first, second),
-        _ => arrange(b, first, second, c),
-    }
-}
-
-// 01 to 09, and those above.
-pub(crate) fn call(b: Buffer, first: &mut [u32], second: &mut [u32], c: Call) -> Reply {
-    match c.number {
-        0x01 => filling::push(b, first, second, c.v, c.w),
-        0x02 => filling::set_length(b, first, second, c.v as usize),
-        0x03 => cursor::clear_output(b, first, second),
-        0x04 => cursor::sync(b, first, second),
-        0x05 => cursor::clear_positions(b, first, second),
-        0x06 => filling::place(b, first, second, input(c.v), c.w, c.x, c.y, c.z),
-        0x08 => cursor::next_glyphs(b, first, second, c.v as usize),
-        0x09 => cursor::skip_glyph(b, first, second),
-        _ => write(b, first, second, c),
+        _ => state::reply(b, Err(Refusal::Unreadable)),
     }
 }

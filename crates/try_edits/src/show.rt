@@ -25,7 +25,6 @@ fn item_line(item: Item) -> fmt::Result {
         Item::OfPassed(g) => glyph_line("p", g),
         Item::OfRest(g) => glyph_line("i", g),
         Item::OfPosition(p) => position_line(p),
-        Item::Nothing => Ok(()),
     }
 }
 
@@ -47,7 +46,9 @@ fn end_line(b: Buffer) -> fmt::Result {
 pub(crate) fn state(b: Buffer, first: &[u32], second: &[u32]) -> fmt::Result {
     end_line(b)?;
     for i in 0..items::item_count(b, first, second) {
-        item_line(items::item(b, first, second, i))?;
+        if let Some(item) = items::item(b, first, second, i) {
+            item_line(item)?;
+        }
     }
     Ok(())
 }

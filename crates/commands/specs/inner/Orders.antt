@@ -4,7 +4,8 @@ use Rattle.std.specs.Prelude.{ℕ, ◌+◌, ◌*◌, Option}
 use lib.{ListN.get_or, ListN.drop}
 use Rattle.records.specs.Bytes.{words_at}
 use Rattle.commands.specs.Calls.{read_form}
-use Rattle.commands.specs.{Calls.form_of, Reading.reading_of, Reading.IsOrdered}
+use Rattle.lists.specs.{declared.Buffer.Buffer, declared.Reply.Reply, Contract.Meets}
+use Rattle.commands.specs.{Calls.form_of, Calls.perform, Reading.reading_of, Reading.ordered, Reading.IsOrdered}
 use Rattle.commands.specs.declared.Order.{Order}
 
 -- operand i of n, which stand from a place on; 0 where there are fewer
@@ -28,3 +29,7 @@ order_at s byte from n m = record {
 pub record ReadsForm (s : List ℕ) (byte from : ℕ) (r : Option Order) : Type 0 where
   pub same : read_form (form_of byte) (drop from s) ≡ reading_of s r
   pub ordered : IsOrdered s byte from r
+
+-- the call of an order that has no glyph numbers of its own, whichever are handed to it
+pub record Makes (o : Order) (b : Buffer) (f s : List ℕ) (r : Reply) (f' s' : List ℕ) : Type 0 where
+  pub meets : (gs : List ℕ) → Meets (λ capacity a. perform 0 capacity (ordered o gs).call (ordered o gs).glyphs a) b f s r f' s'

@@ -1,15 +1,13 @@
 -- What the functions that flag ask for and leave, over the glyphs of whole slices, and what is promised of the verdicts. Places count in the slices.
 use Rattle.lists.specs.inner.States.{Decision}
-use Rattle.lists.specs.inner.Verdicts.{acts_of}
+use Rattle.lists.specs.inner.Verdicts.{leaving}
 use mathlib.Core.{Path.◌≡◌, Bool.Bool, Bool.true, Bool.false, Bool.cond, Bool.not, Bool.◌||◌, List.List}
-use Rattle.std.specs.Prelude.{Option, ℕ, ◌-◌, ◌≤◌, min}
+use Rattle.std.specs.Prelude.{Option, None, Err, ℕ, ◌-◌, ◌≤◌, min}
 use lib.{Dec.ltb, ListN.length, Seq.slice}
-use Rattle.records.specs.{DonePlace, InputPlace, Glyphs.Glyph, Glyphs.flagged, Ranges.clusters, Ranges.edit, View.glyphs}
+use Rattle.records.specs.{DonePlace, InputPlace, Contradiction, WrongPhase, OutOfRange, Glyphs.Glyph, Glyphs.flagged, Ranges.clusters, Ranges.edit, View.glyphs}
 use Rattle.lists.specs.{declared.Buffer.Buffer, declared.Lists.Lists, declared.Reply.Reply}
-use Rattle.lists.specs.{Account.Account, Account.read_level, Contract.Meets, inner.Verdicts.settled, inner.Verdicts.Decided}
-use Rattle.lists.specs.inner.States.{lists_of}
-use Rattle.edits.specs.{inner.BoundNumbers.input_number, inner.BoundNumbers.done_number}
-use Rattle.edits.specs.Flags.{interior, search_level, sought, wants_concat, start_of, end_of, plain_form, outbuffer_form, flag_out_interior, flag_out_all}
+use Rattle.lists.specs.{Account.Account, Contract.Meets, Contract.sound}
+use Rattle.edits.specs.Flags.{interior, sought, wants_concat, plain_form, outbuffer_form, flag_out_interior, flag_out_all}
 
 -- the run after a plain form
 unfoldable pub flagged_run : (interiorly : Bool) → ℕ → ℕ → ℕ → ℕ → List (Glyph ℕ) → List (Glyph ℕ)
@@ -53,21 +51,18 @@ pub record OutFlagged (interiorly : Bool) (level bits : ℕ) (at : Lists) (s e :
   pub apart : at.separate ≡ true → (glyphs run' ≡ flagged_part interiorly level m bits at.idx e (glyphs run)) × (glyphs other' ≡ flagged_part interiorly level m bits s at.out_len (glyphs other))
   pub within : at.separate ≡ false → (glyphs run' ≡ flagged_part interiorly level m bits at.idx e (flagged_part interiorly level m bits s at.out_len (glyphs run))) × (other' ≡ other)
 
--- what is promised of a verdict on a plain form, whatever it marks with; only a concat form may be unwanted
-pub record FlagsInput (concat : Bool) (start end : Option InputPlace) (b : Buffer) (f s : List ℕ) (d : Decision) : Type 0 where
-  pub is : (interiorly : Bool) (bits : ℕ → ℕ) {i j : ℕ} → i ≡ start_of (input_number start) → j ≡ end_of (input_number end) b.len.0
-      → Decided (λ capacity a. plain_form interiorly (not concat || wants_concat a.state.wants) (bits a.state.wants) start end a) b f s (settled b d) (acts_of d)
-      (Flaggable i j f s) (Flagged interiorly (search_level (read_level b.level) b.wants) (bits b.wants) i j)
+-- the decision of a form, by its tests: whether the phase is wrong, whether it does nothing, and whether a place lies outside
+unfoldable pub flag_verdict : Buffer → (first second : List ℕ) → (wrong_phase idle outside : Bool) → Decision
+flag_verdict b f s wrong_phase idle outside =
+    cond (sound b f s) (cond wrong_phase (Err WrongPhase) (cond idle (leaving b false None) (cond outside (Err OutOfRange) (leaving b true None)))) (Err Contradiction)
 
--- and on an outbuffer form
-pub record FlagsOut (concat : Bool) (start : Option DonePlace) (end : Option InputPlace) (b : Buffer) (f s : List ℕ) (d : Decision) : Type 0 where
-  pub is : (interiorly : Bool) (bits : ℕ → ℕ) {i j : ℕ} → i ≡ start_of (done_number start) → j ≡ end_of (input_number end) b.len.0
-      → Decided (λ capacity a. outbuffer_form interiorly (not concat || wants_concat a.state.wants) (bits a.state.wants) start end a) b f s (settled b d) (acts_of d)
-      (OutFlaggable (lists_of b) i j f s) (OutFlagged interiorly (search_level (read_level b.level) b.wants) (bits b.wants) (lists_of b) i j)
+pub record FlagVerdict (b : Buffer) (f s : List ℕ) (wrong_phase idle outside : Bool) (d : Decision) : Type 0 where
+  pub is : d ≡ flag_verdict b f s wrong_phase idle outside
 
--- and of the call: `bits` is what some function of wants has at the buffer's
+-- what is promised of a plain form: `bits` is what some function of wants has at the buffer's
 pub record PlainMeets (concat : Bool) (bits : ℕ) (start end : Option InputPlace) (b : Buffer) (f s : List ℕ) (r : Reply) (f' s' : List ℕ) : Type 0 where
   pub is : (g : ℕ → ℕ) → bits ≡ g b.wants → Meets (λ capacity a. plain_form (not concat) (not concat || wants_concat a.state.wants) (g a.state.wants) start end a) b f s r f' s'
 
+-- and of an outbuffer form
 pub record OutMeets (concat : Bool) (bits : ℕ) (start : Option DonePlace) (end : Option InputPlace) (b : Buffer) (f s : List ℕ) (r : Reply) (f' s' : List ℕ) : Type 0 where
   pub is : (g : ℕ → ℕ) → bits ≡ g b.wants → Meets (λ capacity a. outbuffer_form (not concat) (not concat || wants_concat a.state.wants) (g a.state.wants) start end a) b f s r f' s'

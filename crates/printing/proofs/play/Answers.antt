@@ -1,4 +1,5 @@
 -- The commands of the parts before the last place are done.
+-- With these laws named on the function in place of the answers, the check does not close them.
 use Rattle.std.proofs.Common.{rules}
 use Rattle.printing.proofs.Parts.{parted_none, parted_more, parted_all}
 use Rattle.printing.proofs.play.Goals as goal

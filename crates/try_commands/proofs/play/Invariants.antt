@@ -3,8 +3,8 @@ use Prim.Native.Nat.{◌-◌}
 use lib.ListN.{length}
 use Rattle.try_commands.proofs.play.Given as goal
 
-abbrev pub invariant-loop-taken : goal.invariant-loop-taken
-invariant-loop-taken l = Unit {0}
+abbrev pub invariant-loop-reader : goal.invariant-loop-reader
+invariant-loop-reader l = Unit {0}
 
-abbrev pub decreases-loop-taken : goal.decreases-loop-taken
-decreases-loop-taken l = length l.list - l.at
+abbrev pub decreases-loop-reader : goal.decreases-loop-reader
+decreases-loop-reader l = length l.reader.bytes.now - l.reader.place

@@ -3,4 +3,4 @@ use Rattle.edits.proofs.SiftedRuns.{SiftingOf}
 use Rattle.edits.proofs.deleting_inplace.sift.Given as goal
 
 abbrev pub invariant-loop-idx : goal.invariant-loop-idx
-invariant-loop-idx l = SiftingOf l.key.slot l.key.mask l.value l.positions l.way.level l.way.wants l.len l.initial.left l.initial.run l.initial.other l.left l.run l.other l.idx l.out_len
+invariant-loop-idx l = SiftingOf l.keyed.key.slot l.keyed.key.mask l.value l.positions l.keyed.way.level l.keyed.way.wants l.keyed.len l.initial.left l.initial.run l.initial.other l.left l.run l.other l.idx l.out_len

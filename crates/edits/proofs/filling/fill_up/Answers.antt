@@ -1,10 +1,10 @@
 -- With these laws named on the function in place of the answers, the check does not close them.
 use Rattle.edits.proofs.SetLengths.{length_calls}
-use Rattle.edits.proofs.WholeCalls.{run-laws}
+use Rattle.edits.proofs.WholeCalls.{run_laws}
 use Rattle.edits.proofs.filling.fill_up.Goals as goal
 
-pub zero_positions-requires : goal.zero_positions-requires
-zero_positions-requires c = search run-laws
+pub zero-requires : goal.zero-requires
+zero-requires c = search run_laws
 
 pub returns-then-have_positions : goal.returns-then-have_positions
 returns-then-have_positions c = search length_calls

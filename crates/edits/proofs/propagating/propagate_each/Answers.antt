@@ -1,13 +1,9 @@
--- With these laws named on the function in place of the answers, the check does not close them.
-use Rattle.std.proofs.Common.{rules}
-use Rattle.edits.proofs.Propagations.{propagating}
+use Rattle.std.proofs.Common.{◌≤◌, rules, arith}
+use Rattle.edits.proofs.Propagations.{group-fits, propagates_each}
 use Rattle.edits.proofs.propagating.propagate_each.Goals as goal
 
-pub propagate_group-requires : goal.propagate_group-requires
-propagate_group-requires c = search (propagating, rules)
-
-pub loop-s-preserved : goal.loop-s-preserved
-loop-s-preserved c = search propagating
+pub each_group-requires : goal.each_group-requires
+each_group-requires c = record { fits = c.requires.1; law = λ p q s e lr lo o i. let w = group-fits _ _ c.requires.1 lr i in let k : s ≤ e = omega (arith, o) in search rules }
 
 pub returns : goal.returns
-returns c = search propagating
+returns c = propagates_each c.requires.1 c.each_group.ensures (λ s e run other run' other' a. (search rules, search rules))

@@ -1,16 +1,13 @@
--- With these laws named on the function in place of the answers, the check does not close them.
 use Rattle.std.proofs.Common.{zero-le, rules}
-use Rattle.edits.proofs.GroupTurns.{group_turning, groups-done}
+use Rattle.edits.proofs.GroupTurns.{turning-room, turns_each}
+use Rattle.edits.proofs.WholeCalls.{run-lengths}
 use Rattle.edits.proofs.reversing.turn_groups.Goals as goal
 
-pub loop-i-init : goal.loop-i-init
-loop-i-init g c = search group_turning
+pub each_group-requires : goal.each_group-requires
+each_group-requires g c = record { fits = c.requires.room.fits; law = λ p q s e lr lo o i. let w = turning-room c.requires lr lo o i in search rules }
 
-pub loop-i-preserved : goal.loop-i-preserved
-loop-i-preserved g c = search group_turning
-
-pub turn_range-requires-2 : goal.turn_range-requires-2
-turn_range-requires-2 g c = search (zero-le, rules)
+pub turn_range-requires : goal.turn_range-requires
+turn_range-requires g c = search (zero-le, run-lengths, rules)
 
 pub returns : goal.returns
-returns g c = groups-done c.loop-i.invariant c.loop-i-test.false c.turn_range-2.ensures
+returns g c = turns_each c.requires c.each_group.ensures (λ s e run other run' other' a. search rules) c.turn_range.ensures

@@ -1,5 +1,6 @@
-use Rattle.edits.proofs.WholeCalls.{run-laws}
+-- With these laws named on the function in place of the answers, the check does not close them.
+use Rattle.edits.proofs.WholeCalls.{run_laws}
 use Rattle.edits.proofs.reversing.turn_range.Goals as goal
 
-pub reverse_positions-requires : goal.reverse_positions-requires
-reverse_positions-requires c = search run-laws
+pub reverse-requires : goal.reverse-requires
+reverse-requires c = search run_laws

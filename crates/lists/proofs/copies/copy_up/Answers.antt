@@ -1,4 +1,5 @@
 -- The glyphs from i on are copied.
+-- With these laws named on the function in place of the answers, the check does not close them.
 use native.Mathlib.Omega.{arith}
 use Rattle.records.proofs.View.{glyphs-fit}
 use Rattle.lists.proofs.Copying.{copying}

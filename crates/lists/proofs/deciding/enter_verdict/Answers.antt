@@ -1,3 +1,4 @@
+-- With these laws named on the function, the check does not close these.
 use Rattle.lists.proofs.Decisions.{settles-refused, turned}
 use Rattle.lists.proofs.CursorCalls.{cursor_calls}
 use Rattle.lists.proofs.deciding.enter_verdict.Goals as goal
@@ -7,9 +8,6 @@ returns-then-is_spoiled c = settles-refused (search cursor_calls) (search cursor
 
 pub returns-in_err-sound : goal.returns-in_err-sound
 returns-in_err-sound c = search cursor_calls
-
-pub enter-requires : goal.enter-requires
-enter-requires c = search cursor_calls
 
 pub returns : goal.returns
 returns c = search cursor_calls

@@ -1,3 +1,4 @@
+-- With these laws named on the function in place of the answers, the check does not close them.
 use Rattle.lists.proofs.Decisions.{settles-refused, turned}
 use Rattle.lists.proofs.CursorCalls.{cursor_calls}
 use Rattle.lists.proofs.deciding.lig_id_verdict.Goals as goal

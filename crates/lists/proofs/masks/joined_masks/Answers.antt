@@ -1,4 +1,5 @@
 -- What is joined so far is that of the masks from i on.
+-- With these laws named on the function in place of the answers, the check does not close them.
 use Rattle.lists.proofs.Joining.{joining}
 use Rattle.lists.proofs.masks.joined_masks.Goals as goal
 

@@ -1,4 +1,5 @@
 -- All from i up to s are of the cluster.
+-- With these laws named on the function in place of the answers, the check does not close them.
 use Rattle.lists.proofs.Runs.{running}
 use borrow.Author.Rules.{rules}
 use Rattle.lists.proofs.ranges.equal_start.Goals as goal

@@ -1,4 +1,5 @@
 -- What is found so far is the least from i on.
+-- With these laws named on the function in place of the answers, the check does not close them.
 use Rattle.lists.proofs.Runs.{running}
 use Rattle.lists.proofs.ranges.least_cluster.Goals as goal
 

@@ -1,4 +1,5 @@
 -- The glyphs from s up to i are changed.
+-- With these laws named on the function in place of the answers, the check does not close them.
 use Rattle.lists.proofs.Editing.{editing}
 use borrow.Author.Rules.{rules}
 use Rattle.lists.proofs.ranges.or_masks_unless.Goals as goal

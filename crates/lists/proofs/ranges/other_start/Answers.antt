@@ -1,4 +1,5 @@
 -- None from i up to e is of the cluster.
+-- With these laws named on the function in place of the answers, the check does not close them.
 use Rattle.lists.proofs.Runs.{running}
 use borrow.Author.Rules.{rules}
 use Rattle.lists.proofs.ranges.other_start.Goals as goal

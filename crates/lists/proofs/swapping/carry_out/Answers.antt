@@ -5,4 +5,4 @@ pub returns-in-Ok : goal.returns-in-Ok
 returns-in-Ok g c = carries-ok c.in-Ok.is c.carried.ensures
 
 pub returns-in-Err : goal.returns-in-Err
-returns-in-Err g c = carries-err c.in-Err.is c.refusal.ensures
+returns-in-Err g c = carries-err c.in-Err.is c.reply.ensures

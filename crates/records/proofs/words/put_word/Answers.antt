@@ -1,12 +1,6 @@
-use Rattle.records.proofs.Places.{place_inside, was-put}
+use Rattle.records.proofs.Places.{was-put}
 use Rattle.std.proofs.Common.{rules}
 use Rattle.records.proofs.words.put_word.Goals as goal
 
-pub offset_bounds-ws-at : goal.offset_bounds-ws-at
-offset_bounds-ws-at c = search (place_inside, rules)
-
-pub bounds-ws-at : goal.bounds-ws-at
-bounds-ws-at c = search (place_inside, rules)
-
 pub returns : goal.returns
-returns c = search (was-put, rules)
+returns g c = search (was-put, rules)
