@@ -4,15 +4,6 @@ use edits::flagging;
 use lists::cursor;
 use records::{DonePlace, InputPlace};
 
-// The bounds that a flag call takes.
-fn at(i: usize) -> Option<InputPlace> {
-    Some(InputPlace(i))
-}
-
-fn done_at(i: usize) -> Option<DonePlace> {
-    Some(DonePlace(i))
-}
-
 // Three glyphs of four.
 #[unsafe(no_mangle)]
 pub extern "C" fn bench_unsafe(
@@ -25,7 +16,8 @@ pub extern "C" fn bench_unsafe(
     let mut b = whole(n, n, level, 0);
     // tried with `each`: 6 instructions more a call, since the reply is cleared anew
     for k in 0..n / 4 {
-        b = flagging::unsafe_to_break(b, first, second, at(4 * k), at(4 * k + 3)).buffer;
+        let (start, end) = (Some(InputPlace(4 * k)), Some(InputPlace(4 * k + 3)));
+        b = flagging::unsafe_to_break(b, first, second, start, end).buffer;
     }
     tell(b, out);
 }
@@ -42,7 +34,8 @@ pub extern "C" fn bench_unsafe_pairs(
     let mut b = whole(n, n, level, 0);
     // tried with `each`: as above
     for i in 0..n.saturating_sub(1) {
-        b = flagging::unsafe_to_break(b, first, second, at(i), at(i + 2)).buffer;
+        let (start, end) = (Some(InputPlace(i)), Some(InputPlace(i + 2)));
+        b = flagging::unsafe_to_break(b, first, second, start, end).buffer;
     }
     tell(b, out);
 }
@@ -59,8 +52,8 @@ pub extern "C" fn bench_unsafe_out(
     let times = (n / 4).saturating_sub(1);
     let b = each(start, first, second, times, |b, f, s, k| {
         *b = cursor::next_glyphs(*b, f, s, 4).buffer;
-        let from = done_at(4 * k + 2);
-        *b = flagging::unsafe_to_break_from_outbuffer(*b, f, s, from, at(4 * k + 6)).buffer;
+        let (from, end) = (Some(DonePlace(4 * k + 2)), Some(InputPlace(4 * k + 6)));
+        *b = flagging::unsafe_to_break_from_outbuffer(*b, f, s, from, end).buffer;
     });
     finish(b, first, second, out);
 }

@@ -1,4 +1,4 @@
-// Loads over the calls, for Rust to link and to measure: each a function with its loop inside.
+// Loads over the calls, for Rust to link and to measure: each a function, with the loop inside where a call is made many times.
 // All but the byte commands take the same five parameters, and no struct of them: the driver passes them as C does. Each is an exported name,
 // so two that differ in one call stay two.
 

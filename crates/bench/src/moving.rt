@@ -3,7 +3,7 @@ use super::states::{each, finish, opened, opened_apart};
 use edits::writing;
 use lists::{Buffer, cursor};
 
-// Sixteen on and four back.
+// Sixteen on and four back; then twenty on and four back, each time.
 fn move_about(mut b: Buffer, first: &mut [u32], second: &mut [u32], n: usize) -> Buffer {
     // tried with `each`: up to 7 instructions more a round
     for k in 1..n / 16 {
@@ -53,7 +53,7 @@ pub extern "C" fn bench_move_far(
     finish(back, first, second, out);
 }
 
-// Back over the start of the input, which goes up by one each time.
+// A glyph is written and taken back, each time. The output stands at the start of the slice, so the input moves up by one place to make room.
 #[unsafe(no_mangle)]
 pub extern "C" fn bench_move_over(
     first: &mut [u32],

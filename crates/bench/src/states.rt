@@ -5,7 +5,7 @@ use edits::writing;
 use lists::{Buffer, cursor, state};
 use records::{InputPlace, Limits};
 
-// A whole run of n glyphs, in the first slice.
+// A whole run of n glyphs, in the first slice. As driving `start`, and with wants; driving needs `io`, which a library for Rust to link lacks.
 pub fn whole(n: usize, allocated: usize, level: u32, wants: u32) -> Buffer {
     let fresh = state::fresh_buffer(level, wants);
     Buffer {

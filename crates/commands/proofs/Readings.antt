@@ -203,6 +203,9 @@ module _ {s : List ℕ} {at : ℕ} where
   unfolding front
   reads-inside h w = record { is = ap front (next s at (at + 1) h (omega arith)) ∙ w.same; places = λ k. w.ordered }
 
+  pub reads-unknown : {b : ℕ} → at < length s → get_or s at 0 ≡ b → operands_of (form_of b) ≡ None → Reads s at None
+  reads-unknown h e u = reads-inside h (unknown-unreadable _ _ _ (rw e u))
+
 -- the calls of what is left of a string go by what the reader answers at its place
 pub read-up-to : (n : ℕ) (s : List ℕ) (at : ℕ) (r : Option Order) → at < length s → Reads s at r
     → read_up_to (suc n) (drop at s) ≡ continued n (reading_of s r)

@@ -6,6 +6,8 @@ use native.Mathlib.Omega.{arith}
 use lib.{ListN.length, ListN.set, ListN.take, ListN.length-append, Seq.sets, Seq.sets-eq, Seq.drop-drop}
 use borrow.Rule.Slice.PartMut.{put_mid}
 use Rattle.std.specs.Int.{from_bool}
+use Rattle.std.specs.Prelude.{Ok, Option, Some, None}
+use Rattle.records.specs.Answers.{Answer, ok, ok_with, said}
 use Rattle.records.specs.{View.seen, declared.GlyphInfo.GlyphInfo}
 use Rattle.records.proofs.View.{seen-number, seen-mask, seen-cluster, seen-var0, seen-var1, seen-origin}
 use Rattle.lists.specs.{Account.spoiled_phase, declared.Buffer.Buffer}
@@ -51,6 +53,13 @@ pub ruleset writing = (then_one, then-two, then-three, then-word)
 pub truth_short : (t : Bool) → length (decimal (from_bool t)) ≡ 1
 truth_short true = rw (one-digit 1 (omega arith)) refl
 truth_short false = rw (one-digit 0 (omega arith)) refl
+
+-- ---- answers
+pub said-ok : {a : Answer} {x : Option ℕ} → a ≡ Ok x → x ≡ None → said a ≡ ok
+said-ok e f = rw (e, f) refl
+
+pub said-value : {a : Answer} {x : Option ℕ} {v : ℕ} → a ≡ Ok x → x ≡ Some v → said a ≡ ok_with v
+said-value e f = rw (e, f) refl
 
 -- ---- lines
 pub glyph-put : (kind : ℕ) (g : GlyphInfo) {w x : Writer} → Puts (kind ∷ ending (map decimal (g.glyph ∷ g.cluster ∷ g.mask ∷ g.var0 ∷ g.var1 ∷ g.origin ∷ []))) w x → Puts (glyph_line kind (seen g)) w x

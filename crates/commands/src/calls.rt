@@ -14,7 +14,7 @@ use lists::{Buffer, Reply};
 use records::operands::bound;
 use records::{DonePlace, GlyphInfo, InputPlace};
 
-// 0C: a glyph of an order's operands. No function of five words, shared with try_edits: here each word stands beside its name.
+// 0C: a glyph of an order's operands. Not one function shared with try_edits: it would take five bare words; here each stands beside its name.
 #[tactic(auto, using(crate::proofs::CallLaws::operand_laws), unfolding(crate::specs::Calls::perform))]
 fn output_info(b: Buffer, first: &mut [u32], second: &mut [u32], o: Order) -> Reply
     ensures { Meets (λ capacity a. perform 0 capacity (c0C-output-info o.b o.c o.d o.e) (o.a ∷ []) a) b first.old second.old result first.new second.new }
@@ -85,7 +85,7 @@ fn prepare(b: Buffer, first: &mut [u32], second: &mut [u32], o: Order) -> Reply
         0x03 => lists::cursor::clear_output(b, first, second),
         0x04 => lists::cursor::sync(b, first, second),
         0x05 => lists::cursor::clear_positions(b, first, second),
-        _ => edits::filling::place(b, first, second, o.a.into(), o.b, o.c, o.d, o.e),
+        _ => edits::filling::place(b, first, second, InputPlace::from(o.a), o.b, o.c, o.d, o.e),
     }
 }
 
@@ -114,11 +114,13 @@ fn merge(b: Buffer, first: &mut [u32], second: &mut [u32], o: Order) -> Reply
     requires { (17 ≤ o.byte) × (o.byte < 21) }
     ensures { Makes o b first.old second.old result first.new second.new }
 {
+    let (start, end) = (InputPlace::from(o.a), InputPlace::from(o.b));
+    let (from, to) = (DonePlace::from(o.a), DonePlace::from(o.b));
     match o.byte {
-        0x11 => edits::merges::merge_clusters(b, first, second, o.a.into(), o.b.into()),
-        0x12 => edits::merges::merge_out_clusters(b, first, second, o.a.into(), o.b.into()),
-        0x13 => edits::merges::merge_grapheme_clusters(b, first, second, o.a.into(), o.b.into()),
-        _ => edits::merges::merge_out_grapheme_clusters(b, first, second, o.a.into(), o.b.into()),
+        0x11 => edits::merges::merge_clusters(b, first, second, start, end),
+        0x12 => edits::merges::merge_out_clusters(b, first, second, from, to),
+        0x13 => edits::merges::merge_grapheme_clusters(b, first, second, start, end),
+        _ => edits::merges::merge_out_grapheme_clusters(b, first, second, from, to),
     }
 }
 
@@ -128,9 +130,9 @@ fn flag(b: Buffer, first: &mut [u32], second: &mut [u32], o: Order) -> Reply
     requires { (21 ≤ o.byte) × (o.byte < 26) }
     ensures { Makes o b first.old second.old result first.new second.new }
 {
-    let start = bound(o.a, InputPlace::from(o.a));
-    let end = bound(o.b, InputPlace::from(o.b));
-    let from = bound(o.a, DonePlace::from(o.a));
+    let start = bound::<InputPlace>(o.a);
+    let end = bound::<InputPlace>(o.b);
+    let from = bound::<DonePlace>(o.a);
     match o.byte {
         0x15 => edits::flagging::unsafe_to_break(b, first, second, start, end),
         0x16 => edits::flagging::unsafe_to_concat(b, first, second, start, end),
@@ -146,14 +148,15 @@ fn arrange(b: Buffer, first: &mut [u32], second: &mut [u32], o: Order) -> Reply
     requires { (26 ≤ o.byte) × (o.byte < 39) }
     ensures { Makes o b first.old second.old result first.new second.new }
 {
+    let (start, end) = (InputPlace::from(o.a), InputPlace::from(o.b));
     match o.byte {
         0x1A => edits::relabeling::set_masks(b, first, second, o.a, o.b, o.c, o.d),
         0x1B => edits::reversing::reverse(b, first, second),
-        0x1C => edits::reversing::reverse_range(b, first, second, o.a.into(), o.b.into()),
+        0x1C => edits::reversing::reverse_range(b, first, second, start, end),
         0x1D => edits::reversing::reverse_clusters(b, first, second),
         0x1E => edits::reversing::reverse_graphemes(b, first, second, o.a, o.b),
         0x1F => edits::relabeling::reset_clusters(b, first, second),
-        0x20 => edits::sorting::sort(b, first, second, o.a.into(), o.b.into(), o.c, o.d),
+        0x20 => edits::sorting::sort(b, first, second, start, end, o.c, o.d),
         0x21 => edits::deleting_inplace::delete_glyphs_inplace(b, first, second, o.a, o.b, o.c),
         0x22 => edits::grouping::form_clusters(b, first, second, o.a, o.b),
         0x23 => edits::propagating::propagate_flags(b, first, second),

@@ -1,9 +1,9 @@
-// How much of a glyph's line a text shows: all of it, or all but the glyph column.
+// How much of a line a text shows: all of it, or all but the glyph column, which only a glyph's line has.
 ghost use Rattle.std.specs.Prelude.{◌≡◌, ◌==◌, List, ℕ, ◌≤◌, length, position};
 ghost use Rattle.commands.specs.Totals.{is_glyph_kind};
 ghost use Rattle.commands.specs.{Texts.without_glyph, inner.TextParts.Spaced, inner.TextParts.Cut};
 
-// What becomes of a line.
+// What is shown of a line, whatever line it is.
 pub(crate) trait Column {
     ghost shown: { List ℕ → List ℕ };
 
@@ -34,12 +34,12 @@ impl Column for Removed {
     }
 }
 
-// `o`, `p` and `i`.
+// Whether a line is a glyph's, by its first byte.
 #[tactic(auto, unfolding(crate::specs::Totals::is_glyph_kind))]
 fn is_glyph_kind(kind: u8) -> bool
     ensures { result ≡ is_glyph_kind kind }
 {
-    kind == b'o' || kind == b'p' || kind == b'i'
+    matches!(kind, b'o' | b'p' | b'i')
 }
 
 fn first_space(line: &[u8]) -> Option<usize>
@@ -63,14 +63,10 @@ fn next_space(line: &[u8], from: usize) -> usize
 fn cut(line: &mut [u8]) -> usize
     ensures { Cut without_glyph line.old result line.new }
 {
-    if line.len() < 2 {
+    if line.len() < 2 || !is_glyph_kind(line[0]) {
         return 0;
     }
-    let kind = line[0];
-    if is_glyph_kind(kind) {
-        let start = next_space(line, 2) - 1;
-        line[start] = kind;
-        return start;
-    }
-    0
+    let start = next_space(line, 2) - 1;
+    line[start] = line[0];
+    start
 }

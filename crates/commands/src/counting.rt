@@ -9,7 +9,7 @@ ghost use Rattle.commands.specs.Totals.{read_line, plus, starts, counted, read_t
 use super::{Entry, Totals};
 use lists::{Buffer, Item};
 
-// What is read of words that are printed: the words.
+// A word that is printed and read again is itself.
 #[tactic(auto, using(crate::proofs::FieldLaws::number_decimal))]
 fn entry_of(kind: u8, cluster: u32, mask: u32) -> Entry
     ensures { result ≡ record { kind = kind; cluster = number_of (decimal cluster); mask = number_of (decimal mask) } }

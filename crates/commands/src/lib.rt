@@ -39,7 +39,7 @@ pub struct Taken {
     pub next: usize,
 }
 
-// A byte string and a place in it.
+// A byte string and a place in it. A copy reads at the same place again; what looks without going on is given one.
 #[derive(Clone, Copy)]
 pub struct Script<'a> {
     pub bytes: &'a [u8],
@@ -77,7 +77,8 @@ pub struct Played {
     pub commands: usize,
 }
 
-// What a reader takes from the line of a glyph: `o`, `p` or `i`, its cluster and its mask.
+// What a reader takes from the line of a glyph: its kind, which is the line's own first byte (`o`, `p` or `i`), as specs/Totals reads it,
+// its cluster and its mask.
 #[derive(Clone, Copy)]
 pub struct Entry {
     pub kind: u8,

@@ -36,14 +36,12 @@ impl Line for Answered {
     fn write(&self, w: &mut Writer) {
         w.put_hex(self.byte);
         match self.answer {
-            Ok(value) => match value {
-                None => w.put_all(b" ok\n"),
-                Some(v) => {
-                    w.put_all(b" ok");
-                    w.put_word(v);
-                    w.put(b'\n');
-                }
-            },
+            Ok(None) => w.put_all(b" ok\n"),
+            Ok(Some(v)) => {
+                w.put_all(b" ok");
+                w.put_word(v);
+                w.put(b'\n');
+            }
             Err(why) => {
                 w.put_all(b" no");
                 w.put_word(u32::from(why));
@@ -53,7 +51,7 @@ impl Line for Answered {
     }
 }
 
-// A line `o`, `p` or `i`, as its kind says.
+// A line `o`, `p` or `i`. Its kind is the line's own first byte, as specs/Lines has it.
 fn write_glyph(w: &mut Writer, kind: u8, g: GlyphInfo)
     requires { w.old.at + longest ≤ length w.old.out.now }
     ensures puts { Puts (glyph_line kind (seen g)) w.old w.new }
@@ -143,11 +141,14 @@ impl Line for Totals {
     }
 }
 
-// Whether the longest line, of 81 bytes, has room from a place on.
+// The longest line's bytes.
+const LONGEST: usize = 81;
+
+// Whether the longest line has room from a place on.
 pub(crate) fn has_room(len: usize, at: usize) -> bool
     ensures { result ≡ leb (at + longest) len }
 {
-    at <= len && 81 <= len - at
+    at <= len && LONGEST <= len - at
 }
 
 // The place after a line, or the same where it has no room.

@@ -27,21 +27,17 @@ pub fn play(
     let mut last = Step { reply, next: at };
     let mut written = 0;
     let mut commands = 0;
-    // Each command says where the next one starts.
+    // Each command says where the next one starts. The label names the loop for its proof.
     'steps: while has_next(last.next, script.len(), written, out.len()) {
         let here = last.next;
         let byte = script[here];
         last = steps::step(last.reply.buffer, first, second, script, here);
-        let reply = last.reply;
-        let answer = reply.answer;
-        written = lines::answer_line(out, written, byte, answer);
+        written = lines::answer_line(out, written, byte, last.reply.answer);
         commands += 1;
     }
-    let reply = last.reply;
-    let next = last.next;
     Played {
-        reply,
-        next,
+        reply: last.reply,
+        next: last.next,
         written,
         commands,
     }

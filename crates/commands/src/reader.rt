@@ -1,4 +1,4 @@
-// The reader: one command from a byte string at a place, as an order.
+// The reader: one command from a byte string at a place, as an order. Bytes and place stay apart: a command is read at one place, once.
 ghost use Rattle.std.specs.Prelude.{◌≡◌, ◌+◌, ◌*◌, ◌≤◌, length};
 ghost use Rattle.commands.specs.declared.Operands.TheVariants.{Words, Listed};
 ghost use Rattle.commands.specs.{Calls.form_of, Reading.operands_of, inner.Orders.operand_at, inner.Orders.order_at, inner.Orders.ReadsForm, Reading.Reads};
@@ -128,10 +128,7 @@ fn read_listed(script: &[u8], byte: u8, from: usize) -> Option<Order>
 pub fn read_command(script: &[u8], at: usize) -> Option<Order>
     ensures { Reads script.now at result }
 {
-    if script.len() <= at {
-        return None;
-    }
-    let byte = script[at];
+    let byte = *script.get(at)?;
     match operands_of(byte)? {
         Words(n) => read_words(script, byte, at + 1, n),
         Listed => read_listed(script, byte, at + 1),

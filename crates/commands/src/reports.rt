@@ -1,4 +1,4 @@
-// What is printed at the end of a run, line by line.
+// What is printed at the end of a run, line by line. Buffer and slices, and the slice and place of a line, are parameters as callers lend them.
 ghost use Rattle.std.specs.Prelude.{◌≡◌, length};
 ghost use Rattle.commands.specs.{Texts.Prints, Lines.reported, Lines.line_of};
 

@@ -22,11 +22,13 @@ pub fn run(b: Buffer, first: &mut [u32], second: &mut [u32], script: &[u8]) -> R
     let reply = lists::state::reply(b, Ok(None));
     let mut last = Step { reply, next: 0 };
     let mut commands = 0;
-    // Each step says where the next one starts.
+    // Each step says where the next one starts. The label names the loop for its proof.
     'steps: while last.next < script.len() {
         last = steps::step(last.reply.buffer, first, second, script, last.next);
         commands += 1;
     }
-    let reply = last.reply;
-    Ran { reply, commands }
+    Ran {
+        reply: last.reply,
+        commands,
+    }
 }

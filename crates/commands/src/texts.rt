@@ -10,7 +10,7 @@ use super::writer::Writer;
 use lists::Buffer;
 use std::ops::Range;
 
-// What a report is of.
+// What a report is of: buffer and slices, as callers lend them.
 #[derive(Clone, Copy)]
 struct Source<'a> {
     b: Buffer,
@@ -26,7 +26,7 @@ impl<'a> Source<'a> {
         reports::report_count(self.b, self.first, self.second)
     }
 
-    // What is shown of line k, somewhere in a room.
+    // What is shown of line k, somewhere in a room. Rooms of 128 bytes: a round size above the longest line's 81.
     fn show_line<C: Column>(&self, room: &mut [u8], k: usize) -> Range<usize>
         requires { longest ≤ length room.old }
         ensures { Stands (C.shown (line_of k (report_of self.now))) result.start result.end room.new }

@@ -1,4 +1,5 @@
-// A place in a lent slice, from which on bytes, numbers and words are written.
+// A place in a lent slice, from which on bytes, numbers and words are written. Not by `fmt`: each byte is proved against specs/Lines,
+// and so is a bound on the length, in a slice that is lent, with no heap; std's decimal is another definition.
 ghost use Rattle.std.specs.Prelude.{◌≡◌, cond, [], ◌∷◌, ◌+◌, ◌≤◌, ◌<◌, length};
 ghost use Rattle.commands.specs.{Lines.digit_of, Lines.decimal, Lines.signed, Lines.hex_digit, Lines.hex, inner.Writes.Puts};
 
@@ -20,7 +21,7 @@ fn hex_digit(n: u8) -> u8
     requires { n < 16 }
     ensures { result ≡ hex_digit n }
 {
-    if n < 10 { 48 + n } else { 55 + n }
+    if n < 10 { b'0' + n } else { b'A' + (n - 10) }
 }
 
 impl<'a> Writer<'a> {
@@ -51,7 +52,7 @@ impl<'a> Writer<'a> {
         self.at = end;
     }
 
-    // As specs/Lines defines it: std's decimal is another definition.
+    // As specs/Lines defines it.
     #[tactic(auto, using(crate::proofs::Writes::decimals))]
     fn put_decimal(&mut self, n: usize)
         requires { self.old.at + length (decimal n) ≤ length self.old.out.now }
@@ -64,7 +65,7 @@ impl<'a> Writer<'a> {
         self.put(digit(n));
     }
 
-    // A word that stands for a signed number.
+    // A word that stands for a signed number, as specs/Lines defines it. By `unsigned_abs`, or `wrapping_neg`, the check leaves the first goal open.
     #[tactic(auto, using(crate::proofs::Writes::signs), unfolding(crate::specs::Lines::signed))]
     fn put_signed(&mut self, w: u32)
         requires { self.old.at + 11 ≤ length self.old.out.now }

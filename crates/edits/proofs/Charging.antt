@@ -16,7 +16,8 @@ use Rattle.lists.specs.{Account.Account, Contract.Meets, Account.Result, Account
 use Rattle.lists.proofs.Sides.{MeetsIn}
 use Rattle.lists.proofs.Decisions.{Refuses, near-limits, settled_is, acts-is, leaves-is, settles-unsound, settles-refused, meets-sided}
 use Rattle.lists.proofs.SoundLaws.{soundness}
-use Rattle.edits.specs.{inner.Acts.Acts, WholeRun.not_whole, inner.Wholes.WholeInput, inner.Wholes.RunRoom, inner.Wholes.RunOf, inner.Charges.DecidedBy, inner.Charges.running, inner.Charges.Charges, inner.Charges.keyed_verdict, inner.Charges.TakesKeyed}
+use Rattle.edits.specs.{inner.Acts.Acts, WholeRun.not_whole, inner.Wholes.WholeInput, inner.Wholes.whole_verdict, inner.Wholes.TakesWhole, inner.Wholes.RunRoom, inner.Wholes.RunOf, inner.Charges.DecidedBy, inner.Charges.running, inner.Charges.Charges, inner.Charges.keyed_verdict, inner.Charges.TakesKeyed}
+use Rattle.lists.proofs.Tries.{Exits}
 use Rattle.edits.proofs.WholeInputs.{whole_test, not-not-whole, whole-lengths}
 use Rattle.edits.proofs.WholeCalls.{OnWhole, whole-refuses, lying-whole, sound-whole, whole_room, whole_run}
 
@@ -83,23 +84,40 @@ pub serving-by : {R : Type 0} {amend : R → Verdict → Verdict} {call : ℕ �
 serving-by d k = k d
 
 -- ---- 1E, 21, 22: the verdict that they share
+OkOf : Decision → Type 0
+OkOf d = elim d [ Ok x ↦ Unit {0} | Err why ↦ ⊥ ]
+
+ErrOf : Decision → Type 0
+ErrOf d = elim d [ Ok x ↦ ⊥ | Err why ↦ Unit {0} ]
+
+keyed-turned : (b : Buffer) {v : Decision} (x y z : Bool) → v ≡ cond x (cond y (Err WrongPhase) (leaving b true None)) (Err Contradiction) → {why : Refusal} → v ≡ Err why → v ≡ cond x (cond y (Err WrongPhase) (cond z (Err BadOperand) (leaving b true None))) (Err Contradiction)
+unfolding ErrOf
+keyed-turned b false y z e h = e
+keyed-turned b true true z e h = e
+keyed-turned b true false z e h = absurd (subst ErrOf (sym h ∙ e) tt)
+
 module _ {slot : ℕ} {b : Buffer} {f s : List ℕ} {v : Decision} where
-  pub keyed-unsound : sound b f s ≡ false → Turned Contradiction v → TakesKeyed slot b f s v
+  pub keyed-out : {d : Decision} → TakesWhole b f s d → Exits d v → TakesKeyed slot b f s v
+  unfolding whole_verdict keyed_verdict
+  keyed-out w x = record { is = keyed-turned b (sound b f s) (whole_test b) (ltb 1 slot) ((x.is ∙ sym x.was) ∙ w.is) x.is }
+
+module _ {b : Buffer} {f s : List ℕ} {d : Decision} (w : TakesWhole b f s d) {x : Verdict} (e : d ≡ Ok x) where
+  went-on : (sound b f s ≡ true) × (whole_test b ≡ false) × (d ≡ leaving b true None)
+  unfolding whole_verdict OkOf
+  went-on = by (sound b f s) (whole_test b) refl refl w.is
+    where
+      by : (p q : Bool) → sound b f s ≡ p → whole_test b ≡ q → d ≡ cond p (cond q (Err WrongPhase) (leaving b true None)) (Err Contradiction) → (sound b f s ≡ true) × (whole_test b ≡ false) × (d ≡ leaving b true None)
+      by false q h k i = absurd (subst OkOf (sym e ∙ i) tt)
+      by true true h k i = absurd (subst OkOf (sym e ∙ i) tt)
+      by true false h k i = (h, k, i)
+
+  pub keyed-bad : {slot : ℕ} {v : Decision} → 1 < slot → Turned BadOperand v → TakesKeyed slot b f s v
   unfolding keyed_verdict
-  keyed-unsound h w = record { is = rw h w.is }
+  keyed-bad {slot} o t = let g = went-on in record { is = rw (g.0, g.1, lt-ltb 1 slot o) t.is }
 
-  module _ {t : Bool} (h : sound b f s ≡ true) (et : t ≡ whole_test b) where
-    pub keyed-not : t ≡ true → Turned WrongPhase v → TakesKeyed slot b f s v
-    unfolding keyed_verdict
-    keyed-not k w = record { is = rw (h, sym et ∙ k) w.is }
-
-    pub keyed-bad : t ≡ false → 1 < slot → Turned BadOperand v → TakesKeyed slot b f s v
-    unfolding keyed_verdict
-    keyed-bad k o w = record { is = rw (h, sym et ∙ k, lt-ltb 1 slot o) w.is }
-
-    pub keyed-ahead : t ≡ false → slot ≤ 1 → Leaves b true None v → TakesKeyed slot b f s v
-    unfolding keyed_verdict
-    keyed-ahead k o w = record { is = rw (h, sym et ∙ k, le-ltb 1 slot o) w.is }
+  pub keyed-ahead : {slot : ℕ} → slot ≤ 1 → TakesKeyed slot b f s (Ok x)
+  unfolding keyed_verdict
+  keyed-ahead {slot} o = let g = went-on in record { is = rw (g.0, g.1, le-ltb 1 slot o) (sym e ∙ g.2) }
 
 -- what each of them does where it goes ahead
 pub record OnKeyed (R : Type 0) (amend : R → Verdict → Verdict) (call : ℕ → Account ℕ → Result ℕ) (slot : ℕ) (b : Buffer) (Act : R → (run other run' other' : List ℕ) → Type 0) : Type 0 where
@@ -137,6 +155,6 @@ module _ {slot : ℕ} {b : Buffer} {f s : List ℕ} {v : Decision} (w : TakesKey
   keyed-run = whole_run keyed-whole
 
 -- for the proofs of functions
-pub ruleset charging = (turned, soundness, keyed-unsound, keyed-not, keyed-bad, keyed-ahead, keyed-room, keyed-run)
+pub ruleset charging = (turned, soundness, keyed-out, keyed-bad, keyed-ahead, keyed-room, keyed-run)
 
 pub ruleset ending-by = (by-acted, by-still)

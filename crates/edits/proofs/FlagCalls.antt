@@ -97,8 +97,8 @@ module _ (interiorly wanted : Bool) (bits : ℕ) (s e : Option InputPlace) (a : 
       plain-in-flags o = simp (h, k, ← ei, ← ej, ← eg, o, refusing)
 
 -- ---- what the code tested, as the account says it
-pub idle-of : (b : Buffer) (run other : List ℕ) (concat x : Bool) {idle : Bool} → idle ≡ (not (not concat || wants_concat b.wants) || x) → (not (not concat || wants_concat (account_of b run other).state.wants) || x) ≡ idle
-idle-of b run other concat x ei = rw (wants-of b run other) (sym ei)
+pub idle-of : (b : Buffer) (run other : List ℕ) (interiorly x : Bool) {idle : Bool} → idle ≡ (not (interiorly || wants_concat b.wants) || x) → (not (interiorly || wants_concat (account_of b run other).state.wants) || x) ≡ idle
+idle-of b run other interiorly x ei = rw (wants-of b run other) (sym ei)
 
 pub end-of : {b : Buffer} {run other : List ℕ} {j : ℕ} (end : Option InputPlace) → Held b run other → spoiled_phase b.phase ≡ false → j ≡ end_of (input_number end) b.len.0 → j ≡ end_of (input_number end) (len (account_of b run other))
 end-of {b} {run} {other} end v p ee = ee ∙ ap (end_of (input_number end)) (sym (len_of b run other v p))
@@ -155,60 +155,60 @@ module _ {b : Buffer} {f s : List ℕ} {wrong idle out : Bool} {v : Decision} wh
       by true false false false h k n o e = ahead h k n o (record { is = e })
 
 -- ---- what the calls come to, by their tests: whatever the form marks with; only a concat form may be unwanted
-pub record FlagsInput (concat : Bool) (start end : Option InputPlace) (b : Buffer) (f s : List ℕ) (d : Decision) : Type 0 where
-  pub is : (interiorly : Bool) (bits : ℕ → ℕ) {i j : ℕ} → i ≡ start_of (input_number start) → j ≡ end_of (input_number end) b.len.0
-      → Decided (λ capacity a. plain_form interiorly (not concat || wants_concat a.state.wants) (bits a.state.wants) start end a) b f s (settled b d) (acts_of d)
+pub record FlagsInput (interiorly : Bool) (start end : Option InputPlace) (b : Buffer) (f s : List ℕ) (d : Decision) : Type 0 where
+  pub is : (bits : ℕ → ℕ) {i j : ℕ} → i ≡ start_of (input_number start) → j ≡ end_of (input_number end) b.len.0
+      → Decided (λ capacity a. plain_form interiorly (interiorly || wants_concat a.state.wants) (bits a.state.wants) start end a) b f s (settled b d) (acts_of d)
       (Flaggable i j f s) (Flagged interiorly (search_level (read_level b.level) b.wants) (bits b.wants) i j)
 
-module _ {concat : Bool} {start end : Option InputPlace} {b : Buffer} {f s : List ℕ} {v : Decision} where
-  plain-unsound : sound b f s ≡ false → Turned Contradiction v → FlagsInput concat start end b f s v
-  plain-unsound h w = record { is = λ interiorly bits es' ee'. decided-unsound h w }
+module _ {interiorly : Bool} {start end : Option InputPlace} {b : Buffer} {f s : List ℕ} {v : Decision} where
+  plain-unsound : sound b f s ≡ false → Turned Contradiction v → FlagsInput interiorly start end b f s v
+  plain-unsound h w = record { is = λ bits es' ee'. decided-unsound h w }
 
   module _ (h : sound b f s ≡ true) where
-    plain-spoiled : spoiled_phase b.phase ≡ true → Turned WrongPhase v → FlagsInput concat start end b f s v
-    plain-spoiled k w = record { is = λ interiorly bits es' ee'. decided-refused h (record { law = λ run other l. plain-in-spoiled interiorly _ _ start end _ (spoiled-of b run other ∙ k) }) w }
+    plain-spoiled : spoiled_phase b.phase ≡ true → Turned WrongPhase v → FlagsInput interiorly start end b f s v
+    plain-spoiled k w = record { is = λ bits es' ee'. decided-refused h (record { law = λ run other l. plain-in-spoiled interiorly _ _ start end _ (spoiled-of b run other ∙ k) }) w }
 
-    module _ {idle : Bool} (p : spoiled_phase b.phase ≡ false) (ei : idle ≡ (not (not concat || wants_concat b.wants) || too_far (input_number start) (input_number end))) where
-      plain-idle : idle ≡ true → Leaves b false None v → FlagsInput concat start end b f s v
+    module _ {idle : Bool} (p : spoiled_phase b.phase ≡ false) (ei : idle ≡ (not (interiorly || wants_concat b.wants) || too_far (input_number start) (input_number end))) where
+      plain-idle : idle ≡ true → Leaves b false None v → FlagsInput interiorly start end b f s v
       plain-idle k w = record {
-        is = λ interiorly bits es' ee'. decided-accepted h (accepts None (near_same b) (λ run other l.
-            (plain-in-idle interiorly _ _ start end _ (spoiled-of b run other ∙ p) (idle-of b run other concat _ ei ∙ k), l.held))) w;
+        is = λ bits es' ee'. decided-accepted h (accepts None (near_same b) (λ run other l.
+            (plain-in-idle interiorly _ _ start end _ (spoiled-of b run other ∙ p) (idle-of b run other interiorly _ ei ∙ k), l.held))) w;
       }
 
       module _ {i j : ℕ} {out : Bool} (n : idle ≡ false) (es : i ≡ start_of (input_number start)) (ee : j ≡ end_of (input_number end) b.len.0) (eo : out ≡ (ltb j i || ltb i (gone_of b))) where
-        plain-outside : out ≡ true → Turned OutOfRange v → FlagsInput concat start end b f s v
+        plain-outside : out ≡ true → Turned OutOfRange v → FlagsInput interiorly start end b f s v
         plain-outside y w = record {
-          is = λ interiorly bits es' ee'. decided-refused h (record {
+          is = λ bits es' ee'. decided-refused h (record {
             law = λ run other l.
-                plain-in-outside interiorly _ _ start end _ (spoiled-of b run other ∙ p) (idle-of b run other concat _ ei ∙ n) es (end-of end l.held p ee) (sym (gone-of b run other)) (sym eo ∙ y);
+                plain-in-outside interiorly _ _ start end _ (spoiled-of b run other ∙ p) (idle-of b run other interiorly _ ei ∙ n) es (end-of end l.held p ee) (sym (gone-of b run other)) (sym eo ∙ y);
           }) w;
         }
 
-        plain-ahead : out ≡ false → Leaves b true None v → FlagsInput concat start end b f s v
+        plain-ahead : out ≡ false → Leaves b true None v → FlagsInput interiorly start end b f s v
         plain-ahead y w = record {
-          is = λ interiorly bits es' ee'. rw (es' ∙ sym es, ee' ∙ sym ee) (decided-does h (record {
+          is = λ bits es' ee'. rw (es' ∙ sym es, ee' ∙ sym ee) (decided-does h (record {
             near = near_same b;
             none = λ c. absurd (false≢true (sym c));
             law = λ run other run' other' l lr lo act.
                 rw act.other-is (in-acts (plain-acts (mergeful end l.held p ee (sym eo ∙ y)) (bits b.wants) run' interiorly lr act.run_is)
-                (plain-in-flags interiorly _ _ start end _ (spoiled-of b run other ∙ p) (idle-of b run other concat _ ei ∙ n) es (end-of end l.held p ee) (sym (gone-of b run other)) (sym eo ∙ y)
+                (plain-in-flags interiorly _ _ start end _ (spoiled-of b run other ∙ p) (idle-of b run other interiorly _ ei ∙ n) es (end-of end l.held p ee) (sym (gone-of b run other)) (sym eo ∙ y)
                 ∙ ap (λ (x : ℕ). accepted (flag_plain interiorly (bits x) (i - gone_of b) (j - gone_of b) (account_of b run other))) (wants-of b run other)) refl);
           }) (λ c. flags-range (mergeful end (sound-held b f s h) p ee (sym eo ∙ y))) w);
         }
 
-module _ {concat : Bool} {start end : Option InputPlace} {b : Buffer} {f s : List ℕ} {v : Decision} where
-  pub flags-input : {wrong idle out : Bool} {i j : ℕ} → wrong ≡ spoiled_phase b.phase → idle ≡ (not (not concat || wants_concat b.wants) || too_far (input_number start) (input_number end)) → i ≡ start_of (input_number start) → j ≡ end_of (input_number end) b.len.0
-      → out ≡ (ltb j i || ltb i (gone_of b)) → FlagVerdict b f s wrong idle out v → FlagsInput concat start end b f s v
+module _ {interiorly : Bool} {start end : Option InputPlace} {b : Buffer} {f s : List ℕ} {v : Decision} where
+  pub flags-input : {wrong idle out : Bool} {i j : ℕ} → wrong ≡ spoiled_phase b.phase → idle ≡ (not (interiorly || wants_concat b.wants) || too_far (input_number start) (input_number end)) → i ≡ start_of (input_number start) → j ≡ end_of (input_number end) b.len.0
+      → out ≡ (ltb j i || ltb i (gone_of b)) → FlagVerdict b f s wrong idle out v → FlagsInput interiorly start end b f s v
   flags-input ew ei es ee eo w =
       by-tests w plain-unsound (λ h k. plain-spoiled h (sym ew ∙ k)) (λ h k. plain-idle h (sym ew ∙ k) ei) (λ h k n. plain-outside h (sym ew ∙ k) ei n es ee eo) (λ h k n. plain-ahead h (sym ew ∙ k) ei n es ee eo)
 
 -- the bits are a number, whatever wants has
-pub plain_meets : {concat : Bool} {bits : ℕ} {start end : Option InputPlace} {b : Buffer} {f s : List ℕ} {r : Reply} {f' s' : List ℕ} → PlainMeets concat bits start end b f s r f' s'
-    → Meets (λ capacity a. plain_form (not concat) (not concat || wants_concat a.state.wants) bits start end a) b f s r f' s'
+pub plain_meets : {interiorly : Bool} {bits : ℕ} {start end : Option InputPlace} {b : Buffer} {f s : List ℕ} {r : Reply} {f' s' : List ℕ} → PlainMeets interiorly bits start end b f s r f' s'
+    → Meets (λ capacity a. plain_form interiorly (interiorly || wants_concat a.state.wants) bits start end a) b f s r f' s'
 plain_meets {bits = bits} w = w.is (λ n. bits) refl
 
 -- or what wants says of the tatweel
-pub tatweel_meets : {bits : ℕ} {start end : Option InputPlace} {b : Buffer} {f s : List ℕ} {r : Reply} {f' s' : List ℕ} → PlainMeets false bits start end b f s r f' s' → bits ≡ cond (wants_tatweel b.wants) 4 3
+pub tatweel_meets : {bits : ℕ} {start end : Option InputPlace} {b : Buffer} {f s : List ℕ} {r : Reply} {f' s' : List ℕ} → PlainMeets true bits start end b f s r f' s' → bits ≡ cond (wants_tatweel b.wants) 4 3
     → Meets (λ capacity a. plain_form true true (cond (wants_tatweel a.state.wants) 4 3) start end a) b f s r f' s'
 tatweel_meets w e = w.is (λ n. cond (wants_tatweel n) 4 3) e
 

@@ -28,26 +28,17 @@ module _ (level m bits i j : ℕ) (l : List (Glyph ℕ)) {f e : ℕ} {t : Bool} 
   unfolding interior
   interior-all yt el = rw (f-is, e-is, ← et, yt) el
 
-  pub interior-part : {from to : ℕ} {l' : List (Glyph ℕ)} → t ≡ false → from ≡ cond (is m f) (j - tails (isnt m) (slice i j (clusters l))) i → to ≡ cond (is m f) j (i + heads (isnt m) (slice i j (clusters l))) → l' ≡ edit from to (flagged bits) l → l' ≡ interior level m bits i j l
+  pub interior-first : {from : ℕ} {l' : List (Glyph ℕ)} → t ≡ false → f ≡ m → from ≡ j - tails (isnt m) (slice i j (clusters l)) → l' ≡ edit from j (flagged bits) l → l' ≡ interior level m bits i j l
   unfolding interior
-  interior-part {from} {to} {l'} nt ea eo el = rw (f-is, e-is, ← et, nt) (by (is m f) ea eo el)
-    where
-      by : (x : Bool) → from ≡ cond x (j - tails (isnt m) (slice i j (clusters l))) i → to ≡ cond x j (i + heads (isnt m) (slice i j (clusters l))) → l' ≡ edit from to (flagged bits) l
-          → l' ≡ cond x (edit (j - tails (isnt m) (slice i j (clusters l))) j (flagged bits) l) (edit i (i + heads (isnt m) (slice i j (clusters l))) (flagged bits) l)
-      by true p q r = rw (← p) (rw q at r)
-      by false p q r = rw (← q) (rw p at r)
+  interior-first nt k ea el = rw (f-is, e-is, ← et, nt, eq-eqb f m k) (rw ea at el)
 
-module _ (m f x y : ℕ) {r : ℕ} where
-  pub of-first : f ≡ m → r ≡ x → r ≡ cond (is m f) x y
-  of-first h e = rw (eq-eqb f m h) e
-
-  pub of-last : (f ≡ m → ⊥) → r ≡ y → r ≡ cond (is m f) x y
-  of-last h e = rw (ne_eqb f m h) e
+  pub interior-last : {to : ℕ} {l' : List (Glyph ℕ)} → t ≡ false → (f ≡ m → ⊥) → to ≡ i + heads (isnt m) (slice i j (clusters l)) → l' ≡ edit i to (flagged bits) l → l' ≡ interior level m bits i j l
+  unfolding interior
+  interior-last nt k eo el = rw (f-is, e-is, ← et, nt, ne_eqb f m k) (rw eo at el)
 
 -- that part of the range
-pub part-order : (x : Bool) (m i j : ℕ) (l : List (Glyph ℕ)) {from to : ℕ} → from ≡ cond x (j - tails (isnt m) (slice i j (clusters l))) i → to ≡ cond x j (i + heads (isnt m) (slice i j (clusters l))) → from ≤ to
-part-order true m i j l p q = omega arith
-part-order false m i j l p q = omega arith
+pub part-start : (x j : ℕ) {from : ℕ} → from ≡ j - x → from ≤ j
+part-start x j e = omega arith
 
 pub part_end : (p : ℕ → Bool) (l : List (Glyph ℕ)) (i j : ℕ) {to : ℕ} → to ≡ i + heads p (slice i j (clusters l)) → (i ≤ j) × (j ≤ length l) → to ≤ j
 part_end p l i j e v =
@@ -212,4 +203,4 @@ sought-empty level i cs = rw (slice_empty i cs) (same (is 2 level))
     same false = refl
 
 -- for the proofs of functions
-pub ruleset flag_laws = (interior-all, interior-part, of-first, of-last, part-order, part_end, marks-seeks, marks-first, marks-last, sought-least, sought-ends, interior-of)
+pub ruleset flag_laws = (interior-all, interior-first, interior-last, part-start, part_end, marks-seeks, marks-first, marks-last, sought-least, sought-ends, interior-of)

@@ -1,11 +1,12 @@
 -- The flag forms on slices: from what their loops say.
-use mathlib.Core.{Path.◌≡◌, Path.sym, Bool.Bool, Bool.true, Bool.false, List.List}
+use mathlib.Core.{Path.◌≡◌, Path.sym, Bool.Bool, Bool.true, Bool.false, Bool.cond, List.List}
 use Rattle.std.proofs.Common.{ℕ, ◌-◌, ◌<◌, ◌≤◌, arith, le-ltb, lt-ltb}
+use Rattle.std.specs.Prelude.{Option, Some, None}
 use lib.Seq.{slice}
 use Rattle.records.specs.{Glyphs.Glyph, Glyphs.flagged, Ranges.clusters, Ranges.edit}
 use Rattle.records.proofs.View.{glyphs-same}
 use Rattle.edits.specs.Flags.{interior, sought}
-use Rattle.edits.specs.inner.Marks.{flagged_run, flagged_part}
+use Rattle.edits.specs.inner.Marks.{flagged_run, flagged_part, marked_part}
 use Rattle.edits.proofs.FlagLaws.{interior-empty, sought-empty}
 
 module _ {interiorly : Bool} (level bits s e : ℕ) (l : List (Glyph ℕ)) where
@@ -28,18 +29,23 @@ sought-none level s e cs o k = let same : e ≡ s = omega arith in rw same (sym 
 mark-none : (level m bits s e : ℕ) (l : List (Glyph ℕ)) → s ≤ e → e ≤ s → l ≡ interior level m bits s e l
 mark-none level m bits s e l o k = let same : e ≡ s = omega arith in rw same (sym (interior-empty level m bits s l))
 
-module _ {interiorly : Bool} (level m bits s e : ℕ) (l : List (Glyph ℕ)) where
-  pub part-interior : {l' : List (Glyph ℕ)} → interiorly ≡ true → l' ≡ interior level m bits s e l → l' ≡ flagged_part interiorly level m bits s e l
-  unfolding flagged_part
+module _ {sought : Option ℕ} (level bits s e : ℕ) (l : List (Glyph ℕ)) where
+  pub part-interior : {m : ℕ} {l' : List (Glyph ℕ)} → sought ≡ Some m → l' ≡ interior level m bits s e l → l' ≡ marked_part sought level bits s e l
+  unfolding marked_part
   part-interior h el = rw h el
 
-  pub part-none : interiorly ≡ true → s ≤ e → e ≤ s → l ≡ flagged_part interiorly level m bits s e l
-  unfolding flagged_part
-  part-none h o k = rw h (mark-none level m bits s e l o k)
+  pub part-none : {m : ℕ} → sought ≡ Some m → s ≤ e → e ≤ s → l ≡ marked_part sought level bits s e l
+  unfolding marked_part
+  part-none {m} h o k = rw h (mark-none level m bits s e l o k)
 
-  pub part-all : {l' : List (Glyph ℕ)} → interiorly ≡ false → l' ≡ edit s e (flagged bits) l → l' ≡ flagged_part interiorly level m bits s e l
-  unfolding flagged_part
+  pub part-all : {l' : List (Glyph ℕ)} → sought ≡ None → l' ≡ edit s e (flagged bits) l → l' ≡ marked_part sought level bits s e l
+  unfolding marked_part
   part-all h el = rw h el
+
+pub part-sought : (x : Bool) {sought : Option ℕ} (level m bits s e : ℕ) (l : List (Glyph ℕ)) → sought ≡ cond x (Some m) None → marked_part sought level bits s e l ≡ flagged_part x level m bits s e l
+unfolding marked_part flagged_part
+part-sought true level m bits s e l h = rw h
+part-sought false level m bits s e l h = rw h
 
 -- for the proofs of functions
 pub ruleset marking = (run-interior, run_short, run-all, sought-none, part-interior, part-none, part-all)

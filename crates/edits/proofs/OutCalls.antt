@@ -4,7 +4,7 @@ use Rattle.lists.proofs.Decisions.{turned}
 use Rattle.lists.specs.inner.States.{Decision}
 use Rattle.lists.specs.inner.Verdicts.{acts_of, Turned}
 use mathlib.Core.{Path.◌≡◌, Path.refl, Path.sym, Path.ap, Path.◌∙◌, Bool.Bool, Bool.true, Bool.false, Bool.◌&&◌, Bool.◌||◌, Bool.false≢true, List.List}
-use Rattle.std.proofs.Common.{ℕ, ◌-◌, ◌<◌, ◌≤◌, arith, le-ltb, lt-ltb}
+use Rattle.std.proofs.Common.{ℕ, ◌-◌, ◌<◌, ◌≤◌, arith, le-ltb, lt-ltb, ltb-true}
 use lib.{Dec.ltb, ListN.length, ListN.drop}
 use Rattle.records.specs.{DonePlace, Contradiction, WrongPhase, OutOfRange, Limits, Glyphs.Glyph, Counters.costs, View.glyphs}
 use Rattle.records.proofs.View.{glyphs-same}
@@ -56,9 +56,13 @@ module _ {b : Buffer} {run other : List ℕ} {s e : ℕ} (v : OutMergeful b s e 
   unfolding merge_out
   out_none few = acts-kept v.held (merge_out merges s e) (limits-few merges (e - s) b.limits few) refl refl (rw (lt-ltb (e - s) 2 few))
 
-  out-leaves : 2 ≤ e - s → merges ≡ false → Merged run other
+  out-leaves : merges ≡ false → Merged run other
   unfolding merge_out
-  out-leaves two h = acts-kept v.held (merge_out merges s e) (limits-free merges (e - s) b.limits h) refl refl (rw (le-ltb (e - s) 2 two, h))
+  out-leaves h = by (ltb (e - s) 2) refl
+    where
+      by : (x : Bool) → ltb (e - s) 2 ≡ x → Merged run other
+      by true k = out_none (ltb-true (e - s) 2 k)
+      by false k = acts-kept v.held (merge_out merges s e) (limits-free merges (e - s) b.limits h) refl refl (rw (k, h))
 
   module _ (two : 2 ≤ e - s) (h : merges ≡ true) where
     out-ready : OutMergeable (glyphs run) (glyphs other) b.idx.0 b.len.0 b.out_len.0 s e
@@ -93,8 +97,8 @@ module _ {separate merges : Bool} {idx len out_length s e : ℕ} {run other : Li
   pub outs-few : e - s < 2 → OutMerges separate merges idx len out_length s e run other run other
   outs-few few = record { acts = λ b a v. out_none v merges few }
 
-  pub outs-free : 2 ≤ e - s → merges ≡ false → OutMerges separate merges idx len out_length s e run other run other
-  outs-free two h = record { acts = λ b a v. out-leaves v merges two h }
+  pub outs-free : merges ≡ false → OutMerges separate merges idx len out_length s e run other run other
+  outs-free h = record { acts = λ b a v. out-leaves v merges h }
 
 module _ {separate merges : Bool} {idx len out_length s e : ℕ} {run other run' other' : List ℕ} where
   pub outs-written : 2 ≤ e - s → merges ≡ true → length run' ≡ length run → length other' ≡ length other → OutWritten separate idx len out_length s e run other run' other' → OutMerges separate merges idx len out_length s e run other run' other'

@@ -1,4 +1,4 @@
-// Deletion: call 0F.
+// Deletion: call 0F. The numbers of calls are document 01's.
 #![tactic(auto, using(crate::proofs::DeleteCalls::delete_acting, crate::proofs::DeleteCalls::delete_calls))]
 
 ghost use Rattle.std.specs.Prelude.{◌≡◌, ◌<◌, ◌≤◌, Bool, length};
@@ -15,6 +15,7 @@ use lists::swapping::Outcome;
 use lists::{Buffer, Decision, Lists, Reply, Verdict, state, swapping, verdicts};
 use records::Refusal;
 
+// Whether the next glyph of the input has the cluster of the glyph at the cursor.
 fn next_has(run: &[u32], idx: usize, len: usize) -> bool
     requires { (idx < len) × (len ≤ length (glyphs run.now)) }
     ensures { NextFound idx len run.now result }
@@ -23,6 +24,7 @@ fn next_has(run: &[u32], idx: usize, len: usize) -> bool
         && records::glyphs::cluster_at(run, idx + 1) == records::glyphs::cluster_at(run, idx)
 }
 
+// Whether the last glyph of the output has it.
 fn last_has(run: &[u32], other: &[u32], lists: Lists) -> bool
     requires { (lists.idx < length (glyphs run.now)) × (lists.out_len ≤ length (glyphs run.now)) × (lists.out_len ≤ length (glyphs other.now)) }
     ensures { LastFound lists.separate lists.idx lists.out_len run.now other.now result }
@@ -79,14 +81,13 @@ pub(crate) fn keep_cluster(run: &mut [u32], other: &mut [u32], lists: Lists, way
     way.merges
 }
 
-// 0F. What is due where it merges is not in it.
+// 0F. The cost of a merge is not in it: whether it merges is known only when the act is done.
 #[inline(always)]
 fn delete_verdict(b: Buffer, first: &[u32], second: &[u32]) -> Decision
     ensures { DecidedBy Bool merged_with (λ capacity a. delete_glyph a) b first.now second.now result (DeleteRoom b.idx.0 b.len.0 b.out_len.0 first.now second.now) (Deletes b.have_separate_output b.level b.wants b.idx.0 b.len.0 b.out_len.0) }
 {
     state::sound(b, first, second)?;
-    let phase = b.phase;
-    if state::have_output(phase) {
+    if state::have_output(b.phase) {
         if b.len.0 <= b.idx.0 {
             return Err(Refusal::OutOfRange);
         }

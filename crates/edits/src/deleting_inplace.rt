@@ -1,5 +1,5 @@
 // Deletion of the glyphs with a key: call 21. The glyphs kept so far are an output in the run, and their positions lie
-// in the other slice, in the same places.
+// in the other slice, in the same places. The numbers of calls are document 01's.
 #![tactic(auto, using(crate::proofs::Siftings::moving_down, crate::proofs::SiftedRuns::sifting))]
 
 ghost use Rattle.std.specs.Prelude.{◌≡◌, ◌<◌, length, if◌then◌else◌, slice_index_or, slice_set};
@@ -41,7 +41,8 @@ fn move_glyph(run: &mut [u32], other: &mut [u32], positions: bool, from: usize, 
     move_position(other, positions, from, to);
 }
 
-// Of a whole run of len glyphs, those with the key are deleted, from the left. What is left, at the front.
+// Of a whole run of len glyphs, those with the key are deleted, from the left. What is left, at the front. `positions`, and no phase: it is asked
+// once, and not of each glyph.
 fn sift(
     run: &mut [u32],
     other: &mut [u32],
@@ -97,8 +98,7 @@ pub fn delete_glyphs_inplace(
 ) -> Reply
     ensures { Meets (λ capacity a. delete_glyphs_inplace slot mask value a) b first.old second.old result first.new second.new }
 {
-    let phase = b.phase;
-    let positions = state::have_positions(phase);
+    let positions = state::have_positions(b.phase);
     let keyed = ways::keyed_of(b, merges::clusters_merge(b.level), Key { slot, mask });
     let decision = whole::keyed_verdict(b, first, second, slot);
     swapping::carry_out(

@@ -3,7 +3,7 @@ ghost use Rattle.std.specs.Prelude.{◌≡◌, ◌<◌};
 ghost use Rattle.edits.specs.Groups.{flag_table};
 ghost use Rattle.edits.specs.Groups.{settled_mask};
 
-// At 8 × wants + joined bits, in the order of the course book.
+// At 8 × wants + joined bits, in the order of the course book. One list, as `flag_table` of the account is: it is what callers are asked for.
 pub(crate) const FLAG_TABLE: [u32; 32] = [
     // wants 0
     0, 1, 0, 1, 4, 5, 4, 5,

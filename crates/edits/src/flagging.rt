@@ -1,4 +1,6 @@
-// Flags: calls 15 to 19. Each decides, acts and settles. `concat` says which form it is: the definitions of the account take these flags.
+// Flags: calls 15 to 19. Each decides, acts and settles. A form that does not mark interiorly is a concat form: so the account's definitions
+// name the two.
+// The numbers of calls are document 01's.
 ghost use Rattle.std.specs.Prelude.{◌≡◌, true, false, not, ◌||◌, ltb, if◌then◌else◌, nat_lt};
 ghost use Rattle.lists.specs.Account.{read_level};
 ghost use Rattle.lists.specs.Contract.{gone_of};
@@ -13,6 +15,7 @@ use super::marking::{self, FlagForm};
 use lists::{Buffer, Decision, Reply, state, swapping, verdicts};
 use records::{DonePlace, InputPlace, Refusal};
 
+// The bits of wants by division and remainder, as the definitions of the account read them, here, below and in `search_level`.
 fn wants_concat(wants: u32) -> bool
     ensures { result ≡ wants_concat wants }
 {
@@ -26,10 +29,10 @@ fn tatweel_bits(wants: u32) -> u32
 }
 
 // Whether a form does nothing: a concat form unwanted, or its bounds too far from each other.
-fn idles<P: Place>(concat: bool, wants: u32, start: Option<P>, end: Option<InputPlace>) -> bool
-    ensures { result ≡ (not (not concat || wants_concat wants) || too_far (place_number P.number start) (input_number end)) }
+fn idles<P: Place>(interiorly: bool, wants: u32, start: Option<P>, end: Option<InputPlace>) -> bool
+    ensures { result ≡ (not (interiorly || wants_concat wants) || too_far (place_number P.number start) (input_number end)) }
 {
-    concat && !wants_concat(wants) || bounds::too_far(start, end)
+    !(interiorly || wants_concat(wants)) || bounds::too_far(start, end)
 }
 
 fn outside_flags(b: Buffer, s: usize, e: usize) -> bool
@@ -44,7 +47,8 @@ fn outside_out(b: Buffer, s: usize, e: usize) -> bool
     b.out_len.0 < s || e < b.idx.0
 }
 
-// The decision of a form, by its tests: whether the phase is wrong, whether it does nothing, and whether a place lies outside.
+// The decision of a form, by its tests: whether the phase is wrong, whether it does nothing, and whether a place lies outside. Its two callers
+// make the tests: with them inside there would be two functions of the same four steps.
 #[inline(always)]
 #[tactic(auto, using(crate::proofs::FlagCalls::flag_verdicts))]
 fn verdict(
@@ -72,11 +76,11 @@ fn verdict(
 
 // A concat form marks every glyph, the others the interior.
 #[inline(always)]
-fn form_of(b: Buffer, concat: bool, bits: u32) -> FlagForm
-    ensures { (result.interiorly ≡ not concat) × (read_level result.level ≡ search_level (read_level b.level) b.wants) × (result.bits ≡ bits) }
+fn form_of(b: Buffer, interiorly: bool, bits: u32) -> FlagForm
+    ensures { (result.interiorly ≡ interiorly) × (read_level result.level ≡ search_level (read_level b.level) b.wants) × (result.bits ≡ bits) }
 {
     FlagForm {
-        interiorly: !concat,
+        interiorly,
         level: flags::search_level(b.level, b.wants),
         bits,
     }
@@ -88,19 +92,19 @@ fn flag_plain(
     b: Buffer,
     first: &mut [u32],
     second: &mut [u32],
-    concat: bool,
+    interiorly: bool,
     bits: u32,
     start: Option<InputPlace>,
     end: Option<InputPlace>,
 ) -> Reply
-    ensures { PlainMeets concat bits start end b first.old second.old result first.new second.new }
+    ensures { PlainMeets interiorly bits start end b first.old second.old result first.new second.new }
 {
     let s = bounds::start(start);
     let e = bounds::end(end, b.len.0);
     let spoiled = state::is_spoiled(b.phase);
-    let idle = idles(concat, b.wants, start, end);
+    let idle = idles(interiorly, b.wants, start, end);
     let decision = verdict(b, first, second, spoiled, idle, outside_flags(b, s, e));
-    let form = form_of(b, concat, bits);
+    let form = form_of(b, interiorly, bits);
     swapping::carry_out(
         b,
         decision,
@@ -117,19 +121,19 @@ fn flag_outbuffer(
     b: Buffer,
     first: &mut [u32],
     second: &mut [u32],
-    concat: bool,
+    interiorly: bool,
     bits: u32,
     start: Option<DonePlace>,
     end: Option<InputPlace>,
 ) -> Reply
-    ensures { OutMeets concat bits start end b first.old second.old result first.new second.new }
+    ensures { OutMeets interiorly bits start end b first.old second.old result first.new second.new }
 {
     let s = bounds::start(start);
     let e = bounds::end(end, b.len.0);
     let lacks_output = !state::have_output(b.phase);
-    let idle = idles(concat, b.wants, start, end);
+    let idle = idles(interiorly, b.wants, start, end);
     let decision = verdict(b, first, second, lacks_output, idle, outside_out(b, s, e));
-    let form = form_of(b, concat, bits);
+    let form = form_of(b, interiorly, bits);
     let at = state::lists_of(b);
     swapping::carry_out(
         b,
@@ -152,7 +156,7 @@ pub fn unsafe_to_break(
 ) -> Reply
     ensures { Meets (λ capacity a. plain_form true true 3 start end a) b first.old second.old result first.new second.new }
 {
-    flag_plain(b, first, second, false, 3, start, end)
+    flag_plain(b, first, second, true, 3, start, end)
 }
 
 // 16
@@ -167,7 +171,7 @@ pub fn unsafe_to_concat(
 ) -> Reply
     ensures { Meets (λ capacity a. plain_form false (wants_concat a.state.wants) 2 start end a) b first.old second.old result first.new second.new }
 {
-    flag_plain(b, first, second, true, 2, start, end)
+    flag_plain(b, first, second, false, 2, start, end)
 }
 
 // 17. Unwanted, it is 15.
@@ -182,7 +186,7 @@ pub fn safe_to_insert_tatweel(
 ) -> Reply
     ensures { Meets (λ capacity a. plain_form true true (if wants_tatweel a.state.wants then 4 else 3) start end a) b first.old second.old result first.new second.new }
 {
-    flag_plain(b, first, second, false, tatweel_bits(b.wants), start, end)
+    flag_plain(b, first, second, true, tatweel_bits(b.wants), start, end)
 }
 
 // 18
@@ -197,7 +201,7 @@ pub fn unsafe_to_break_from_outbuffer(
 ) -> Reply
     ensures { Meets (λ capacity a. outbuffer_form true true 3 start end a) b first.old second.old result first.new second.new }
 {
-    flag_outbuffer(b, first, second, false, 3, start, end)
+    flag_outbuffer(b, first, second, true, 3, start, end)
 }
 
 // 19
@@ -212,5 +216,5 @@ pub fn unsafe_to_concat_from_outbuffer(
 ) -> Reply
     ensures { Meets (λ capacity a. outbuffer_form false (wants_concat a.state.wants) 2 start end a) b first.old second.old result first.new second.new }
 {
-    flag_outbuffer(b, first, second, true, 2, start, end)
+    flag_outbuffer(b, first, second, false, 2, start, end)
 }

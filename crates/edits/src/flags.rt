@@ -1,4 +1,5 @@
-// Flags over ranges of glyphs. A range ends before its end.
+// Flags over ranges of glyphs. The end of a range is not in it. By level and bits, and no `FlagForm`: they mark the interior alone, and merges
+// flag so too.
 ghost use Rattle.std.specs.Prelude.{◌≡◌, ◌+◌, ◌-◌, ◌<◌, ◌≤◌, ◌&&◌, ◌||◌, length, if◌then◌else◌};
 ghost use Rattle.std.proofs.Math.Seq.{slice};
 ghost use Rattle.records.specs.Ranges.{clusters, heads, is, isnt, tails};
@@ -41,30 +42,8 @@ fn marks_all(level: u32, first: u32, last: u32, cluster: u32) -> bool
     last != cluster
 }
 
-// Where one end of a range has the cluster: what is marked then starts behind the last of it, if the first has it, and ends before the first of it otherwise.
-#[tactic(auto, using(crate::proofs::FlagLaws::flag_laws))]
-fn marked_from(ws: &[u32], first: u32, cluster: u32, s: usize, e: usize) -> usize
-    requires { e ≤ length (glyphs ws.now) }
-    ensures { result ≡ (if is cluster first then e - tails (isnt cluster) (slice s e (clusters (glyphs ws.now))) else s) }
-{
-    if first == cluster {
-        return lists::ranges::other_start(ws, s, e, cluster);
-    }
-    s
-}
-
-#[tactic(auto, using(crate::proofs::FlagLaws::flag_laws))]
-fn marked_to(ws: &[u32], first: u32, cluster: u32, s: usize, e: usize) -> usize
-    requires { (s ≤ e) × (e ≤ length (glyphs ws.now)) }
-    ensures { (result ≡ (if is cluster first then e else s + heads (isnt cluster) (slice s e (clusters (glyphs ws.now))))) × (result ≤ e) }
-{
-    if first == cluster {
-        return e;
-    }
-    lists::ranges::other_end(ws, s, e, cluster)
-}
-
-// The interior form of a flag over a range, for a cluster that was sought.
+// The interior form of a flag over a range, for a cluster that was sought. Where the first glyph has it, what is marked starts behind the last
+// glyph that has it; where only the last glyph has it, what is marked ends before the first one that has it.
 #[tactic(auto, using(crate::proofs::FlagLaws::flag_laws))]
 pub(crate) fn mark_interior(ws: &mut [u32], level: u32, cluster: u32, bits: u32, s: usize, e: usize)
     requires { (s < e) × (e ≤ length (glyphs ws.old)) }
@@ -74,10 +53,12 @@ pub(crate) fn mark_interior(ws: &mut [u32], level: u32, cluster: u32, bits: u32,
     let last = records::glyphs::cluster_at(ws, e - 1);
     if marks_all(level, first, last, cluster) {
         lists::ranges::or_masks_unless(ws, s, e, cluster, bits);
+    } else if first == cluster {
+        let from = lists::ranges::other_start(ws, s, e, cluster);
+        lists::ranges::or_masks(ws, from, e, bits);
     } else {
-        let from = marked_from(ws, first, cluster, s, e);
-        let to = marked_to(ws, first, cluster, s, e);
-        lists::ranges::or_masks(ws, from, to, bits);
+        let to = lists::ranges::other_end(ws, s, e, cluster);
+        lists::ranges::or_masks(ws, s, to, bits);
     }
 }
 

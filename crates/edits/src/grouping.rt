@@ -1,4 +1,4 @@
-// Groups of neighbours in the whole run: what calls 1E and 22 make of each grapheme.
+// Groups of neighbours in the whole run: what calls 1E and 22 make of each grapheme. The numbers of calls are document 01's.
 #![tactic(auto, using(crate::proofs::MergeEach::merging_each))]
 
 ghost use Rattle.lists.specs.Contract.{Meets};
@@ -19,7 +19,7 @@ pub(crate) fn merge_each(run: &mut [u32], other: &mut [u32], keyed: Keyed, limit
     let mut left = limits;
     let mut s = 0;
     // No `for`: each step is as long as its grapheme. Nor `each_group`: with the limits handed from act to act, 22 costs 58.8
-    // instructions a glyph, and so 55.8.
+    // instructions a glyph, and 55.8 as it stands.
     while s < keyed.len {
         let e = keyed.key.end_of(run, s, keyed.len);
         merge_acts::merge_run(run, other, keyed.way, keyed.len, s, e);

@@ -1,4 +1,5 @@
 // The thin layer: calls on a state that is lent, and altered by each. Each is the call of the same name by value.
+// The numbers of calls are document 01's.
 ghost use Rattle.lists.specs.Contract.{Meets};
 ghost use Rattle.edits.specs.Writing.{output_glyph};
 ghost use Rattle.edits.specs.Merging.{merge_input, clusters_merge};

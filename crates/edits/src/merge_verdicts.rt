@@ -19,7 +19,7 @@ fn goes_ahead(b: Buffer, merges: bool, n: usize) -> Decision
     verdicts::leaves(state::with_limits(b, limits), true, None)
 }
 
-// 11 and 13, which merge at some levels.
+// 11 and 13, which merge at some levels, and flag at the others.
 #[inline(always)]
 #[tactic(auto, using(crate::proofs::MergeDecisions::merge_calls))]
 pub(crate) fn merge_verdict(
@@ -33,8 +33,7 @@ pub(crate) fn merge_verdict(
     ensures { MergesInput merges start end b first.now second.now result }
 {
     state::sound(b, first, second)?;
-    let phase = b.phase;
-    if state::is_spoiled(phase) {
+    if state::is_spoiled(b.phase) {
         return Err(Refusal::WrongPhase);
     }
     if merges::outside_input(b, start.0, end.0) {
@@ -43,7 +42,7 @@ pub(crate) fn merge_verdict(
     goes_ahead(b, merges, end.0 - start.0)
 }
 
-// 12 and 14
+// 12 and 14, which merge at some levels, and at the others do nothing.
 #[inline(always)]
 #[tactic(auto, using(crate::proofs::OutCalls::out_merge_calls))]
 pub(crate) fn merge_out_verdict(
@@ -57,12 +56,8 @@ pub(crate) fn merge_out_verdict(
     ensures { MergesDone merges start end b first.now second.now result }
 {
     state::sound(b, first, second)?;
-    let phase = b.phase;
-    if state::have_output(phase) {
-        if end.0 < start.0 {
-            return Err(Refusal::OutOfRange);
-        }
-        if b.out_len.0 < end.0 {
+    if state::have_output(b.phase) {
+        if end.0 < start.0 || b.out_len.0 < end.0 {
             return Err(Refusal::OutOfRange);
         }
         return goes_ahead(b, merges, end.0 - start.0);

@@ -1,4 +1,4 @@
-// Merging: calls 11 to 14.
+// Merging: calls 11 to 14. The numbers of calls are document 01's.
 #![tactic(auto, using(crate::proofs::MergeCalls::merge_tests))]
 
 ghost use Rattle.std.specs.Prelude.{◌≡◌, ◌||◌, nat_lt};
@@ -12,12 +12,12 @@ use super::{merge_acts, merge_verdicts, ways};
 use lists::{Buffer, Lists, Reply, state, swapping};
 use records::{DonePlace, InputPlace};
 
-// Whether there is an output and the other slice holds it.
+// Whether there is an output and the other slice holds it. For 11 and 13, in place of the flag of the state, since `Merges` speaks of an account
+// whose output lies so: a state without output may have the flag, and its other slice holds positions.
 pub(crate) fn lies_apart(b: Buffer) -> bool
     ensures { result ≡ lies_apart b }
 {
-    let phase = b.phase;
-    state::have_output(phase) && b.have_separate_output
+    state::have_output(b.phase) && b.have_separate_output
 }
 
 pub(crate) fn clusters_merge(level: u32) -> bool
@@ -40,7 +40,7 @@ pub(crate) fn outside_input(b: Buffer, s: usize, e: usize) -> bool
     e < s || (b.len.0 < e || s < state::gone(b))
 }
 
-// 11 and 13, which merge at some levels.
+// 11 and 13, which merge at some levels, and flag at the others.
 #[inline(always)]
 fn merge_input(
     b: Buffer,
@@ -67,7 +67,7 @@ fn merge_input(
     )
 }
 
-// 12 and 14
+// 12 and 14, which merge at some levels, and at the others do nothing.
 #[inline(always)]
 fn merge_done(
     b: Buffer,

@@ -1,4 +1,4 @@
-// The flags of neighbours of one cluster: call 23.
+// The flags of neighbours of one cluster: call 23. The numbers of calls are document 01's.
 ghost use Rattle.std.specs.Prelude.{◌≡◌, ◌%◌, ◌<◌, ◌≤◌, map, length, get_or, slice_index_or, slice_set};
 ghost use Rattle.std.proofs.Math.Seq.{slice};
 ghost use Rattle.records.specs.Glyphs.{Info, change, with_mask};
@@ -30,6 +30,7 @@ fn propagate_group(run: &mut [u32], table: &[u32], wants: u32, s: usize, e: usiz
     requires { (table.now ≡ flag_table) × (s ≤ e) × (e ≤ length (glyphs run.old)) }
     ensures { glyphs run.new ≡ edit s e (with_mask (settled_mask wants (joined_low (slice s e (map (λ (i : Info). i.mask) (infos (glyphs run.old))))))) (glyphs run.old) }
 {
+    // Most groups are one glyph: without a way of their own 23 costs 53.1 instructions a glyph, and 25.1 so.
     if e - s == 1 {
         propagate_one(run, table, wants, s);
         return;
@@ -49,9 +50,7 @@ fn propagate_each(run: &mut [u32], other: &mut [u32], table: &[u32], wants: u32,
     });
 }
 
-// The same with the table. With a count, and not of a part of the slice: a function that lends the first n glyphs to be
-// written, by `&mut ws[..end]`, does not prove (a part that is handed back is one field or a call's result), and a part's
-// glyphs would be counted again, by a division.
+// The same with the table. With a count, and not of a part of the slice: relabeling says why, at `mask_glyphs`.
 fn propagate_run(run: &mut [u32], other: &mut [u32], wants: u32, n: usize)
     requires { n ≤ length (glyphs run.old) }
     ensures { PropagatesRun wants n run.old other.old run.new other.new }

@@ -31,16 +31,16 @@ pub(crate) fn bring(run: &[u32], other: &mut [u32], at: Lists, apart: bool) -> b
     apart
 }
 
-// g goes to place `at`, as one of one glyphs.
+// g goes to place i. What is promised is a copy of one glyph from a list of one, as `act_on` asks it of any number.
 #[tactic(auto, using(crate::proofs::PutLaws::put_copied))]
-fn put_at(ws: &mut [u32], at: usize, g: GlyphInfo)
-    requires { at + 1 ≤ length (glyphs ws.old) }
-    ensures { glyphs ws.new ≡ copied (glyphs ws.old) at (seen g ∷ []) 0 1 }
+fn put_at(ws: &mut [u32], i: usize, g: GlyphInfo)
+    requires { i + 1 ≤ length (glyphs ws.old) }
+    ensures { glyphs ws.new ≡ copied (glyphs ws.old) i (seen g ∷ []) 0 1 }
 {
-    records::glyphs::put(ws, at, g);
+    records::glyphs::put(ws, i, g);
 }
 
-// g goes behind the output.
+// g goes behind the output. Its two steps are those of `write_copies`: a function of both would be handed the put as a closure, and its contract.
 pub(crate) fn put_one(run: &mut [u32], other: &mut [u32], at: Lists, apart: bool, g: GlyphInfo)
     requires { Puttable at.out_len 1 run.old other.old }
     ensures { Wrote at apart (seen g ∷ []) 1 run.old other.old run.new other.new }

@@ -1,4 +1,4 @@
-// Masks and clusters of the whole run: calls 1A and 1F.
+// Masks and clusters of the whole run: calls 1A and 1F. The numbers of calls are document 01's.
 ghost use Rattle.std.specs.Prelude.{◌≡◌, ◌-◌, ◌<◌, ◌≤◌, ◌&&◌, ◌||◌, ◌++◌, length, take, drop, bit_and, bit_or, nat_le, nat_lt, slice_index_or, slice_set};
 ghost use Rattle.records.specs.Glyphs.{change};
 ghost use Rattle.records.specs.Ranges.{edit, is};
@@ -44,8 +44,8 @@ fn mask_glyph(ws: &mut [u32], i: usize, value: u32, mask: u32, start: u32, end: 
     }
 }
 
-// A count, and no part of the slice, here and in `number_clusters`: that the whole ends as the part and the rest does not prove of a function
-// that returns the part alone. It does of one that returns both parts, but then to part the slice and to write are two functions each.
+// A count, and no part of the slice, here and in `number_clusters`: a function that returns the first part to be written, with the promise that
+// the rest stays, does not prove. One that returns both parts does, but then to part the slice and to write are two functions each.
 #[tactic(auto, using(lists::proofs::Editing::editing))]
 fn mask_glyphs(ws: &mut [u32], n: usize, value: u32, mask: u32, start: u32, end: u32)
     requires { n ≤ length (glyphs ws.old) }

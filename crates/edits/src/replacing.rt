@@ -1,4 +1,4 @@
-// Replacing: calls 0D and 0E. Each decides, acts and settles.
+// Replacing: calls 0D and 0E. Each decides, acts and settles. The numbers of calls are document 01's.
 ghost use Rattle.lists.specs.inner.Verdicts.{amended};
 ghost use Rattle.std.specs.Prelude.{◌≡◌, false, Some, [], ◌∷◌};
 ghost use Rattle.records.specs.Bytes.{words_of};
@@ -41,13 +41,9 @@ fn replace_verdict<G: Given>(
     ensures { ReplaceDecided num_in num_out (G.numbers numbers) b first.now second.now result }
 {
     state::sound(b, first, second)?;
-    let phase = b.phase;
-    if state::have_output(phase) {
+    if state::have_output(b.phase) {
         let left = b.len.0 - b.idx.0;
-        if left < 1 {
-            return Err(Refusal::OutOfRange);
-        }
-        if left < num_in {
+        if left < 1 || left < num_in {
             return Err(Refusal::OutOfRange);
         }
         if numbers.count() < num_out {
@@ -117,8 +113,7 @@ fn one_verdict(b: Buffer, first: &[u32], second: &[u32], number: u32) -> Decisio
     ensures { OutputDecided (λ capacity a. replace_glyphs capacity 1 1 (number ∷ []) a) (Some number) false b first.now second.now result }
 {
     state::sound(b, first, second)?;
-    let phase = b.phase;
-    if state::have_output(phase) {
+    if state::have_output(b.phase) {
         if b.len.0 <= b.idx.0 {
             return Err(Refusal::OutOfRange);
         }

@@ -1,4 +1,4 @@
-// Writing: calls 0A to 0C. Each decides, acts and settles.
+// Writing: calls 0A to 0C. Each decides, acts and settles. The numbers of calls are document 01's.
 ghost use Rattle.lists.specs.inner.Verdicts.{amended, apart_of};
 ghost use Rattle.std.specs.Prelude.{◌≡◌, ◌+◌, ◌-◌, ◌^◌, ◌<◌, ◌≤◌, true, None, Some, length, if◌then◌else◌, slice_index_or};
 ghost use Rattle.records.specs.{View.glyphs, View.seen, inner.Stores.zero_glyph};
@@ -17,10 +17,7 @@ fn overtakes(b: Buffer, num_in: usize, num_out: usize) -> bool
     requires { (b.idx.0 + num_in < 2 ^ 64) × (b.out_len.0 + num_out < 2 ^ 64) }
     ensures { result ≡ overtakes b num_in num_out }
 {
-    if b.have_separate_output {
-        return false;
-    }
-    b.idx.0 + num_in < b.out_len.0 + num_out
+    !b.have_separate_output && b.idx.0 + num_in < b.out_len.0 + num_out
 }
 
 // With output: num_in glyphs are taken and num_out written, if their size is there.
@@ -50,8 +47,7 @@ fn copy_verdict(b: Buffer, first: &[u32], second: &[u32]) -> Decision
     ensures { OutputDecided (λ capacity a. copy_glyph capacity a) None (apart_of result) b first.now second.now result }
 {
     state::sound(b, first, second)?;
-    let phase = b.phase;
-    if state::have_output(phase) {
+    if state::have_output(b.phase) {
         if b.len.0 <= b.idx.0 {
             return Err(Refusal::OutOfRange);
         }
@@ -83,8 +79,7 @@ fn info_verdict(b: Buffer, first: &[u32], second: &[u32], g: GlyphInfo) -> Decis
     ensures { InfoDecided g b first.now second.now result }
 {
     state::sound(b, first, second)?;
-    let phase = b.phase;
-    if state::have_output(phase) {
+    if state::have_output(b.phase) {
         return write_verdict(b, records::glyphs::capacity(first), 0, 1, true);
     }
     Err(Refusal::WrongPhase)
@@ -118,7 +113,7 @@ pub(crate) fn last_done(run: &[u32], other: &[u32], separate: bool, out_len: usi
     records::glyphs::get(output, out_len - 1)
 }
 
-// What is left of a verdict where there is no glyph to be copied: its size.
+// What is left of a verdict where there is no glyph to be copied: the limits, with the size that was allocated, and an output of no glyph.
 #[inline(always)]
 fn size_alone(decision: Decision) -> Decision
     ensures { result ≡ amended size_alone decision }
@@ -133,8 +128,8 @@ fn output_verdict(b: Buffer, first: &[u32], second: &[u32], number: u32) -> Deci
     ensures { OutputDecided (λ capacity a. output_glyph capacity number a) (Some number) (apart_of result) b first.now second.now result }
 {
     state::sound(b, first, second)?;
-    let phase = b.phase;
-    if state::have_output(phase) {
+    if state::have_output(b.phase) {
+        // Whether there is a glyph to copy.
         let some = b.idx.0 < b.len.0 + b.out_len.0;
         let v = write_verdict(b, records::glyphs::capacity(first), 0, 1, some);
         if some {

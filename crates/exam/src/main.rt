@@ -11,11 +11,13 @@ ghost use Rattle.commands.specs.inner.Programs.{Holds};
 ghost use Rattle.commands.specs.Texts.{exam_run, last_account};
 
 use commands::texts;
+use printing::TEXT;
 
 // The answers to a string's commands, printed, and then the report of what they leave, at the start of a room. Gives its length.
-// No function shared with desk: what a program prints is promised of a function of its own, and only one call would be left in it.
+// Not one function that is given `texts::report` or `texts::layout_record`: each program's promise stands at a function of its own, which
+// would then only call the shared one.
 fn answer_all(first: &mut [u32], second: &mut [u32], script: &[u8], out: &mut [u8]) -> usize
-    requires { (words_for 2048 ≡ length first.old) × (words_for 2048 ≡ length second.old) × (331938 ≡ length out.old) }
+    requires { (words_for 2048 ≡ length first.old) × (words_for 2048 ≡ length second.old) × (TEXT ≡ length out.old) }
     ensures { Holds (report (last_account (exam_run 2048 script.now))) result out.new }
 {
     let ran = printing::play_fresh(first, second, script, out);

@@ -124,8 +124,8 @@ module _ (b : Buffer) (run other : List ℕ) where
       unfolding len
       len_of = omega (arith, gone-of, passed-of, gone-in, rest_of)
 
-    pub places-in : b.len.0 ≤ length (positions_in other)
-    places-in = let e : length (glyphs run) ≡ length (glyphs other) = glyphs-same run other v.same in let p : length (positions_in other) ≡ length (glyphs other) = positions-glyphs other in omega arith
+    pub places_in : b.len.0 ≤ length (positions_in other)
+    places_in = let e : length (glyphs run) ≡ length (glyphs other) = glyphs-same run other v.same in let p : length (positions_in other) ≡ length (glyphs other) = positions-glyphs other in omega arith
 
     -- in every phase
     pub gone-within : gone_of b ≤ b.len.0

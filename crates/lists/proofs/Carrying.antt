@@ -22,10 +22,6 @@ module _ {separate : Bool} {from to n : ℕ} {run other : List ℕ} where
   pub carried-within : {run' : List ℕ} → separate ≡ false → glyphs run' ≡ copied (glyphs run) to (glyphs run) from n → Carried separate from to n run other run' other
   carried-within h e = record { run_is = rw h e; other-is = rw h }
 
--- within the run they go towards the front
-pub downward : {separate : Bool} {from to n : ℕ} {run other : List ℕ} → Passable separate from to n run other → separate ≡ false → (to ≤ from) × (from + n ≤ length (glyphs run))
-downward w h = (w.behind h, w.fits.leaving)
-
 -- what the second slice asks for, where it holds the run
 pub passable-turned : {separate : Bool} {from to n : ℕ} {f s : List ℕ} → Passable separate from to n f s → Passable separate from to n s f
 passable-turned w = let v = w.fits in record { fits = record { same = sym v.same; leaving = omega (arith, v.same, v.leaving); arriving = omega (arith, v.same, v.arriving) }; behind = w.behind }
@@ -48,15 +44,12 @@ module _ {A : Type 0} (run other : List A) (separate : Bool) (from to n : ℕ) w
   pub returned-apart : {run' : List A} → separate ≡ true → run' ≡ copied run to other from n → run' ≡ copied run to (cond separate other run) from n
   returned-apart h e = rw h e
 
-  pub returned-none : separate ≡ false → from ≡ to → run ≡ copied run to (cond separate other run) from n
-  returned-none h e = rw (h, e) (sym (copied-self run to n))
-
   pub returned-within : {run' : List A} → separate ≡ false → run' ≡ copied run to run from n → run' ≡ copied run to (cond separate other run) from n
   returned-within h e = rw h e
 
--- where nothing has to go up
-pub shifted_none : {A : Type 0} (l : List A) (from to n : ℕ) → from ≡ to → l ≡ copied l to l from n
-shifted_none l from to n e = rw e (sym (copied-self l to n))
+-- where they lie there already
+pub copied_none : {A : Type 0} (l : List A) (from to n : ℕ) → to ≤ from → from ≤ to → l ≡ copied l to l from n
+copied_none l from to n h k = let e : from ≡ to = omega arith in rw e (sym (copied-self l to n))
 
 -- positions, all zero, in the slice that does not hold the run
 pub zeroed : {n : ℕ} {run other other' : List ℕ} → positions_in other' ≡ filled zero_position 0 n (positions_in other) → Zeroed n run other run other'
@@ -116,4 +109,4 @@ module _ {A : Type 0} where
   kept-done run run' other false o h = h refl
 
 -- for the proofs of functions
-pub ruleset carrying = (downward, carried-apart, carried_none, carried-within, returned-apart, returned-none, returned-within, shifted_none, zeroed)
+pub ruleset carrying = (carried-apart, carried-within, returned-apart, returned-within, zeroed)

@@ -13,7 +13,7 @@ use Rattle.lists.specs.{declared.Buffer.Buffer, declared.Item.Item, declared.Ite
 use Rattle.lists.specs.Account.{Account, output_phase, positions_phase, spoiled_phase, input, positions, out_length}
 use Rattle.lists.specs.{Contract.shown, Contract.gone_of, Contract.account_of, Contract.account, Contract.sound, inner.Held.Soundness, inner.Held.Held}
 use Rattle.lists.specs.Contract.{items}
-use Rattle.lists.proofs.Accounts.{positions-of, length-shown, out_of, rest_of, gone-in, passed-of, gone-spoiled, places-in, gone-within, input-length}
+use Rattle.lists.proofs.Accounts.{positions-of, length-shown, out_of, rest_of, gone-in, passed-of, gone-spoiled, places_in, gone-within, input-length}
 use Rattle.lists.proofs.SoundLaws.{held_first, held-second, out-fits, sound-held, is-sound, is-unsound, soundness}
 use Rattle.lists.proofs.Outputs.{gone-without}
 use Rattle.records.proofs.Made.{map_at}
@@ -188,7 +188,7 @@ module _ (b : Buffer) (run other : List ℕ) (v : Held b run other) where
       let p = placed-clean b.phase h in
       let none : b.out_len.0 ≡ 0 = v.none p.0 in
       let gone : gone_of b ≡ 0 = gone-without b p.0 p.1 in
-      let n : length (take b.len.0 (positions_in other)) ≡ b.len.0 = length-take-le b.len.0 (positions_in other) (places-in b run other v) in
+      let n : length (take b.len.0 (positions_in other)) ≡ b.len.0 = length-take-le b.len.0 (positions_in other) (places_in b run other v) in
       items-length ∙ rw h (omega arith)
 
   count-plain : positions_phase b.phase ≡ false → length (items shows) ≡ b.out_len.0 + (b.len.0 - gone_of b)
@@ -263,4 +263,4 @@ module _ {b : Buffer} {f s : List ℕ} {t : Bool} (w : Soundness b f s t) where
 -- for the proofs of functions
 pub ruleset placing = (place_at, place-past, place_none)
 
-pub ruleset showing = (soundness, done-room, done-shown, item-after, passed-at, rest_at, placed_at, item-held, item-shown, none-unsound, gone-below, twice-fits, both-fit, count-with-positions, count-without, places-in)
+pub ruleset showing = (soundness, done-room, done-shown, item-after, passed-at, rest_at, placed_at, item-held, item-shown, none-unsound, gone-below, twice-fits, both-fit, count-with-positions, count-without, places_in)

@@ -12,12 +12,12 @@ use Rattle.lists.specs.Account.{Account, output_phase, spoiled_phase, has_output
 use Rattle.lists.specs.Account.{refuse◌when◌else◌, Result, accepted}
 use Rattle.lists.specs.Cursor.{opened, positioned, fresh, clear_output, clear_positions, sync}
 use Rattle.lists.specs.{Contract.account_of, Contract.sound, inner.Held.room_for}
-use Rattle.lists.specs.inner.States.{Decision, reply, with_limits_of, at_places, fresh_buffer, opened_buffer, positioned_buffer, spoiled_buffer, swapped_buffer}
+use Rattle.lists.specs.inner.States.{Decision, reply, with_limits_of, at_places, fresh_buffer, opened_buffer, positioned_buffer, restarted_buffer, spoiled_buffer, swapped_buffer}
 use Rattle.lists.specs.Contract.{Meets}
 use Rattle.lists.proofs.Sides.{MeetsIn}
 use Rattle.lists.specs.inner.Moving.{Passable, Carried, Zeroed}
 use Rattle.lists.specs.inner.Verdicts.{acts_of, Turned, leaving, Leaves, Sized, by_size, wrote_buffer, failed_buffer, lies_elsewhere, fresh_verdict, clear_verdict, Freshens, Clears, settled_buffer, settled, settled_as, synced, Sided, Decided}
-use Rattle.lists.proofs.Accounts.{output-of, spoiled-of, places-in}
+use Rattle.lists.proofs.Accounts.{output-of, spoiled-of, places_in}
 use Rattle.lists.proofs.SizeLaws.{room-why}
 use Rattle.lists.proofs.SoundLaws.{sound-held, soundness}
 use Rattle.lists.proofs.Calls.{shell-unsound, shell-accepted, in-accepted}
@@ -113,7 +113,7 @@ Unwritten : (run other run' other' : List ℕ) → Type 0
 Unwritten run other run' other' = (run' ≡ run) × (other' ≡ other)
 
 pub clear_output_meets : {b x : Buffer} {f s : List ℕ} {v : Decision} → Clears b f s v → x ≡ opened_buffer b → Meets (λ capacity a. clear_output a) b f s (settled_as b x v) f s
-unfolding clear_output opened_buffer Unwritten
+unfolding clear_output restarted_buffer Unwritten
 clear_output_meets {b} {x} {f} {s} {v} ev ex = rw ex (by (acts_of v) refl)
   where
     decided : Decided (λ capacity a. clear_output a) b f s (settled_as b (opened_buffer b) v) (acts_of v) (Unit {0}) Unwritten
@@ -126,7 +126,7 @@ clear_output_meets {b} {x} {f} {s} {v} ev ex = rw ex (by (acts_of v) refl)
 
 pub clear-positions-decided : {b x : Buffer} {f s : List ℕ} {v : Decision} → Clears b f s v → x ≡ positioned_buffer b → Decided (λ capacity a. clear_positions a) b f s (settled_as b x v) (acts_of v) ((b.len.0 ≤ length (positions_in f)) × (b.len.0 ≤ length (positions_in s))) (Zeroed b.len.0)
 unfolding clear_positions
-clear-positions-decided {b} {x} {f} {s} ev ex = rw ex (cleared positioned (positioned_buffer b) (λ capacity a. refl) ev (λ h. let w = sound-held b f s h in (omega (arith, positions-glyphs f), places-in b f s w)) (λ hx ho hp run other run' other' l lr lo act e.
+clear-positions-decided {b} {x} {f} {s} ev ex = rw ex (cleared positioned (positioned_buffer b) (λ capacity a. refl) ev (λ h. let w = sound-held b f s h in (omega (arith, positions-glyphs f), places_in b f s w)) (λ hx ho hp run other run' other' l lr lo act e.
     let v : Placeable b run other = record { held = l.held; plain = ho; clean = hp } in
     rw act.run_is (move-accepted (place-moves b run other v other' act.other-is lo refl) refl e refl)))
 

@@ -13,7 +13,7 @@ use Rattle.lists.specs.Account.{Account, in_phase, with_gone, output_phase, spoi
 use Rattle.lists.specs.Account.{Result, Outcome, refused, accepted, outcome, refuse◌when◌else◌}
 use Rattle.lists.specs.Cursor.{fresh, dropping, cursor_at, without_positions, opened}
 use Rattle.lists.specs.{Contract.shown, Contract.gone_of, Contract.state_of, Contract.account_of, Contract.account, Contract.in_order, Contract.sound, inner.Held.Soundness, inner.Held.Held}
-use Rattle.lists.specs.inner.States.{at_places, fresh_buffer, opened_buffer, swapped_buffer, reply}
+use Rattle.lists.specs.inner.States.{at_places, fresh_buffer, opened_buffer, restarted_buffer, swapped_buffer, reply}
 use Rattle.lists.specs.Contract.{Begins}
 use Rattle.lists.proofs.SoundLaws.{held-turned, is-sound, is-unsound, held_first, held-second}
 use Rattle.lists.proofs.Outputs.{gone-output, gone-without}
@@ -139,7 +139,7 @@ module _ (b : Buffer) (run other : List ℕ) (v : Held b run other) where
         (ap (λ (n : ℕ). record { phase = b.phase; gone = n; limits = b.limits; level = read_level b.level; wants = b.wants }) (e ∙ sym (gone-without b o p)))
 
     pub opened_of : opened (account_of b run other) ≡ account_of (opened_buffer b) run other
-    unfolding account_of state_of gone_of shown opened_buffer opened without_positions in_phase with_gone
+    unfolding account_of state_of gone_of shown restarted_buffer opened without_positions in_phase with_gone
     opened_of =
         let w : List (Glyph ℕ) → List (Glyph ℕ) = map (change (with_position zero_position)) in
         ap (λ (l : List (Glyph ℕ)). record { done = []; passed = []; rest = l; state = record { phase = Output; gone = 0; limits = b.limits; level = read_level b.level; wants = b.wants } })
@@ -159,7 +159,7 @@ module _ (b : Buffer) (run other : List ℕ) (v : Held b run other) where
 
 -- ---- 03
 pub opened-held : (b : Buffer) (f s : List ℕ) → Held b f s → Held (opened_buffer b) f s
-unfolding opened_buffer
+unfolding restarted_buffer
 opened-held b f s v = record {
   idx-in = omega arith;
   len-in = v.len-in;

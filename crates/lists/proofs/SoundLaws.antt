@@ -9,11 +9,11 @@ use native.Mathlib.Omega.{arith}
 use borrow.Author.Tests.{le-leb, lt-leb, leb-true, eqb-true, eq-eqb, ne_eqb}
 use lib.{Dec.eqb, Dec.leb, ListN.length}
 use Rattle.std.specs.Prelude.{Ok, Err}
-use Rattle.records.specs.{Refusal, Contradiction, Counters.capacity_of, Counters.rightly_lent, View.glyphs}
+use Rattle.records.specs.{Refusal, Contradiction, WrongPhase, Counters.capacity_of, Counters.rightly_lent, View.glyphs}
 use Rattle.records.proofs.View.{length-glyphs, glyphs-same, lent_same, lent-whole, lent-most, whole_same}
 use Rattle.lists.specs.declared.Buffer.{Buffer}
-use Rattle.lists.specs.Account.{output_phase}
-use Rattle.lists.specs.{Contract.in_order, Contract.sound, inner.Held.Soundness, inner.Held.Test, inner.Held.Tested, inner.Held.Held}
+use Rattle.lists.specs.Account.{output_phase, spoiled_phase}
+use Rattle.lists.specs.{Contract.in_order, Contract.sound, inner.Held.Soundness, inner.Held.Test, inner.Held.Tested, inner.Held.Unspoiled, inner.Held.Held}
 use Rattle.lists.specs.inner.Verdicts.{Turned}
 use Rattle.lists.specs.inner.States.{Decision, most_output}
 
@@ -207,11 +207,36 @@ module _ {b : Buffer} {f s : List ℕ} {t : Test} (w : Tested b f s t) where
     pub tests-err : (v : Decision) → IsErr v × IsErrAnd v (λ (y : Refusal). y ≡ z.0) → Turned Contradiction v
     tests-err v h = record { is = given-back v h ∙ ap Err (tests-out (goes-out out e)).1 }
 
+-- refusal 2 as the code answers it
+abbrev UnspoiledAs : Bool → Test → Type 0
+UnspoiledAs x u = elim u [ Ok y ↦ x ≡ false | Err why ↦ (x ≡ true) × (why ≡ WrongPhase) ]
+
+unspoiled-by : (x : Bool) {t : Test} → t ≡ cond x (Err WrongPhase) (Ok tt) → (u : Test) → t ≡ u → UnspoiledAs x u
+unfolding OkCode ErrCode why-of
+unspoiled-by false e (Ok y) h = refl
+unspoiled-by false e (Err why) h = absurd (subst OkCode (sym e ∙ h) tt)
+unspoiled-by true e (Ok y) h = absurd (subst ErrCode (sym e ∙ h) tt)
+unspoiled-by true e (Err why) h = (refl, ap why-of (sym h ∙ e))
+
+module _ {b : Buffer} {t : Test} (w : Unspoiled b t) where
+  pub tests-unspoiled : {y : Unit {0}} → t ≡ Ok y → spoiled_phase b.phase ≡ false
+  tests-unspoiled {y} h = unspoiled-by (spoiled_phase b.phase) w.is (Ok y) h
+
+  spoiled-out : {why : Refusal} → t ≡ Err why → (spoiled_phase b.phase ≡ true) × (why ≡ WrongPhase)
+  spoiled-out {why} h = unspoiled-by (spoiled_phase b.phase) w.is (Err why) h
+
+  module _ {p : _} (out : t ≡ result_from_control_flow p) {z : _} (e : p ≡ Break z) where
+    pub tests-spoiled : spoiled_phase b.phase ≡ true
+    tests-spoiled = (spoiled-out (goes-out out e)).0
+
+    pub spoiled-err : (v : Decision) → IsErr v × IsErrAnd v (λ (y : Refusal). y ≡ z.0) → Turned WrongPhase v
+    spoiled-err v h = record { is = given-back v h ∙ ap Err (spoiled-out (goes-out out e)).1 }
+
 pub tests-as : {b : Buffer} {f s : List ℕ} {x : Bool} {t : Test} → Soundness b f s x → t ≡ cond x (Ok tt) (Err Contradiction) → Tested b f s t
 tests-as w e = record { is = rw (← w.is) e }
 
 -- for the proofs of functions
-pub ruleset soundness = (is-sound, is-unsound, held_first, held-second, tests-sound, tests-unsound, tests-err, tried)
+pub ruleset soundness = (is-sound, is-unsound, held_first, held-second, tests-sound, tests-unsound, tests-err, tests-unspoiled, tests-spoiled, spoiled-err, tried)
 
 pub ruleset ordering = (order-idx, order-len, order-all, order-most, tested-whole, tested-lent)
 

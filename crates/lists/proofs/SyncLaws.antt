@@ -9,7 +9,7 @@ use Rattle.lists.specs.{declared.Buffer.Buffer, declared.Reply.Reply, inner.Held
 use Rattle.lists.specs.Account.{Account, in_phase, with_gone, output_phase, spoiled_phase, has_output, is_spoiled, len, out_length, failing, sized, read_level}
 use Rattle.lists.specs.Account.{refuse◌when◌else◌, Result, refused, accepted, answered, outcome, needing}
 use Rattle.lists.specs.{Contract.shown, Contract.gone_of, Contract.state_of, Contract.account_of, inner.Held.Held, inner.Held.room_for}
-use Rattle.lists.specs.inner.States.{reply, with_limits_of, swapped_buffer, spoiled_buffer}
+use Rattle.lists.specs.inner.States.{reply, with_limits_of, swapped_buffer, restarted_buffer, spoiled_buffer}
 use Rattle.lists.specs.inner.Held.{exchanged}
 use Rattle.lists.proofs.Sides.{account_in, MeetsIn, Moves}
 use Rattle.lists.specs.Cursor.{moved, output_as_run, spoiling, next_glyphs, sync}
@@ -75,7 +75,7 @@ module _ (capacity : ℕ) (a : Account ℕ) where
 
 module _ (b : Buffer) (run other : List ℕ) (v : Held b run other) where
   spoiling-of : output_phase b.phase ≡ true → account_of (spoiled_buffer b) run other ≡ spoiling (account_of b run other)
-  unfolding account_of state_of gone_of shown spoiled_buffer spoiling in_phase with_gone
+  unfolding account_of state_of gone_of shown restarted_buffer spoiling in_phase with_gone
   spoiling-of o =
       let e : b.len.0 ≡ len (account_of b run other) = sym (len_of b run other v (output-clean b.phase o)) in
       let p : ◌≡◌ {A = List (Glyph ℕ)} (drop b.len.0 []) [] = drop-nil b.len.0 in
@@ -83,7 +83,7 @@ module _ (b : Buffer) (run other : List ℕ) (v : Held b run other) where
       λ k. record { done = []; passed = p k; rest = q k; state = record { phase = Spoiled; gone = e k; limits = b.limits; level = read_level b.level; wants = b.wants } }
 
   held-spoiled : Held (spoiled_buffer b) run other
-  unfolding spoiled_buffer
+  unfolding restarted_buffer
   held-spoiled = record { idx-in = omega arith; len-in = v.len-in; out-in = omega arith; all_in = v.all_in; most = v.most; same = v.same; whole = v.whole; behind = λ p q. absurd (false≢true p); none = λ p. refl }
 
   held-swapped : Held (swapped_buffer b) run other
@@ -91,7 +91,7 @@ module _ (b : Buffer) (run other : List ℕ) (v : Held b run other) where
   held-swapped = record { idx-in = omega arith; len-in = v.out-in; out-in = omega arith; all_in = v.all_in; most = v.most; same = v.same; whole = v.whole; behind = λ p q. absurd (false≢true p); none = λ p. refl }
 
 spoiled-side : (b : Buffer) → (spoiled_buffer b).swapped ≡ b.swapped
-unfolding spoiled_buffer
+unfolding restarted_buffer
 spoiled-side b = refl
 
 -- the output becomes the run, in whichever slice it lies

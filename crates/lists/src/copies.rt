@@ -1,4 +1,4 @@
-// Copies of a range of glyphs.
+// Copies of a range of glyphs. A copy is a place, another and a count: its two ranges are equally long, and two ranges would have to be said so.
 ghost use Rattle.std.specs.Prelude.{◌≡◌, ◌+◌, ◌≤◌, length};
 ghost use Rattle.records.specs.View.{glyphs};
 ghost use Rattle.lists.specs.inner.Copied.{copied};
@@ -17,7 +17,7 @@ pub fn copy_across(src: &[u32], dst: &mut [u32], from: usize, to: usize, n: usiz
 
 // Towards the front, from the first on. Not one function with `copy_across`: a slice is lent once.
 #[tactic(auto, using(crate::proofs::Copying::copying))]
-pub(crate) fn copy_down(ws: &mut [u32], from: usize, to: usize, n: usize)
+fn copy_down(ws: &mut [u32], from: usize, to: usize, n: usize)
     requires { (to ≤ from) × (from + n ≤ length (glyphs ws.old)) }
     ensures { glyphs ws.new ≡ copied (glyphs ws.old) to (glyphs ws.old) from n }
 {
@@ -39,14 +39,15 @@ fn copy_up(ws: &mut [u32], from: usize, to: usize, n: usize)
     }
 }
 
-// Within one slice, whether the ranges overlap or not.
+// Within one slice, whether the ranges overlap or not. Where they are the same, nothing is written.
+#[tactic(auto, using(crate::proofs::Carrying::copied_none))]
 pub(crate) fn copy_within(ws: &mut [u32], from: usize, to: usize, n: usize)
     requires { (from + n ≤ length (glyphs ws.old)) × (to + n ≤ length (glyphs ws.old)) }
     ensures { glyphs ws.new ≡ copied (glyphs ws.old) to (glyphs ws.old) from n }
 {
-    if to <= from {
+    if to < from {
         copy_down(ws, from, to, n);
-    } else {
+    } else if from < to {
         copy_up(ws, from, to, n);
     }
 }

@@ -1,4 +1,4 @@
-// Calls on the counters and the cursor: 00, 03, 04, 05, 07, 08, 09, 10, 24, 25, 26, and out_info. Each decides, acts and settles.
+// Calls on the counters and the cursor. Each decides, acts and settles. The number above a call is the one it has in document 01.
 ghost use Rattle.std.specs.Prelude.{◌≡◌, cond, []};
 ghost use Rattle.records.specs.{View.glyphs, View.Whole};
 ghost use Rattle.lists.specs.Cursor.{fresh, enter, leave, allocate_lig_id, clear_output, clear_positions, next_glyphs, skip_glyph, sync, move_to};
@@ -6,7 +6,7 @@ ghost use Rattle.lists.specs.Contract.{account, sound};
 ghost use Rattle.lists.specs.Contract.{Meets};
 
 use super::{Buffer, Reply, cursor_moves, deciding, fills, moves, state, swapping, verdicts};
-use records::Position;
+use records::{Phase, Position};
 
 // 00
 pub fn fresh(b: Buffer, first: &[u32], second: &[u32], level: u32, wants: u32) -> Reply
@@ -49,7 +49,7 @@ pub fn clear_output(b: Buffer, first: &[u32], second: &[u32]) -> Reply
     ensures { Meets (λ capacity a. clear_output a) b first.now second.now result first.now second.now }
 {
     let decision = deciding::clear_verdict(b, first, second);
-    verdicts::settled_as(b, state::opened(b), decision)
+    verdicts::settled_as(b, state::restarted(b, Phase::Output), decision)
 }
 
 // 05
@@ -129,8 +129,7 @@ pub fn move_to(b: Buffer, first: &mut [u32], second: &mut [u32], i: usize) -> Re
 {
     let decision = cursor_moves::move_verdict(b, first, second, i);
     let lists = state::lists_of(b);
-    let len_after = cursor_moves::len_after(decision);
-    let out_after = cursor_moves::out_len_after(decision);
+    let (len_after, out_after) = cursor_moves::lengths_after(decision);
     swapping::carry_out(
         b,
         decision,

@@ -81,7 +81,8 @@ fn back_over_verdict(b: Buffer, first: &[u32], second: &[u32], n: usize) -> Deci
     verdicts::fails(b, Some(0))
 }
 
-// With output the place counts the output and the rest of the input together.
+// With output the place counts the output and the rest of the input together. Its three cases by `cmp` and a match are 17 instructions a move
+// more.
 #[inline(always)]
 fn move_output_verdict(b: Buffer, first: &[u32], second: &[u32], i: usize) -> Decision
     requires { Opened b first.now second.now }
@@ -112,11 +113,8 @@ pub(crate) fn move_verdict(b: Buffer, first: &[u32], second: &[u32], i: usize) -
     ensures { MovesTo i b first.now second.now result }
 {
     state::sound(b, first, second)?;
-    let phase = b.phase;
-    if state::is_spoiled(phase) {
-        return Err(Refusal::WrongPhase);
-    }
-    if state::have_output(phase) {
+    state::unspoiled(b)?;
+    if state::have_output(b.phase) {
         return move_output_verdict(b, first, second, i);
     }
     let len = b.len.0;
@@ -126,16 +124,9 @@ pub(crate) fn move_verdict(b: Buffer, first: &[u32], second: &[u32], i: usize) -
     verdicts::leaves(state::at_places(b, i, len, b.out_len.0), false, Some(1))
 }
 
-// The end of the input after the move.
-pub(crate) fn len_after(decision: Decision) -> usize
-    ensures { result ≡ len_of decision }
+// The ends of the input and of the output after the move. A call that is refused does not act, and goes by none: it has 0.
+pub(crate) fn lengths_after(decision: Decision) -> (usize, usize)
+    ensures { (result.0 ≡ len_of decision) × (result.1 ≡ out_len_of decision) }
 {
-    decision.map_or(0, |v| v.len)
-}
-
-// The end of the output after it.
-pub(crate) fn out_len_after(decision: Decision) -> usize
-    ensures { result ≡ out_len_of decision }
-{
-    decision.map_or(0, |v| v.out_len)
+    decision.map_or((0, 0), |v| (v.len, v.out_len))
 }

@@ -18,7 +18,7 @@ pub fn zero<T: Stored>(ws: &mut [u32], s: usize, e: usize)
     }
 }
 
-// Of glyphs, as they are seen.
+// Of glyphs as they are seen, as the acts on them speak: `zero` speaks of `GlyphInfo`s, `map stored (glyphs ws)`.
 #[tactic(auto, using(crate::proofs::Storing::storing))]
 pub fn zero_glyphs(ws: &mut [u32], s: usize, e: usize)
     requires { (s ≤ e) × (e ≤ length (glyphs ws.old)) }

@@ -36,6 +36,7 @@ fn position_item(b: Buffer, other: &[u32], k: usize) -> Option<Item>
 }
 
 // The k-th of those after the output.
+#[tactic(auto, using(crate::proofs::Accounts::places_in))]
 fn input_item(b: Buffer, run: &[u32], other: &[u32], k: usize) -> Option<Item>
     requires { Held b run.now other.now }
     ensures { result ≡ slice_get (items (account_of b run.now other.now)) (b.out_len.0 + k) }

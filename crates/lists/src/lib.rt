@@ -8,7 +8,7 @@ pub mod cursor;
 pub mod items;
 pub mod lent;
 
-// Below the calls, for the crates above: functions that ask for something, or speak of a state and not of its account.
+// Below the calls, for the crates above: functions that have a `requires`, or speak of a state and not of its account.
 pub mod copies;
 mod cursor_moves;
 mod deciding;
@@ -33,6 +33,7 @@ pub struct Buffer {
     pub len: InputPlace,
     pub out_len: DonePlace,
     pub limits: Limits,
+    // Three bits, as document 01 has them; a state that is lent may hold others.
     pub wants: u32,
     pub phase: Phase,
     // The second lent slice holds the run.
@@ -44,7 +45,7 @@ pub struct Buffer {
 }
 
 // Where the lists of a buffer lie: the cursor, the end of the input, the end of the output, and whether the output lies in the slice that
-// does not hold the run.
+// does not hold the run. Its places are bare, as those of `Verdict`: acts go by places of either slice, and by sums of both kinds.
 #[derive(Clone, Copy)]
 pub struct Lists {
     pub idx: usize,
@@ -60,8 +61,9 @@ pub struct Reply {
     pub answer: Answer,
 }
 
-// What an accepted call comes to, before a word is written: the places and limits that it leaves, whether its output moves to the slice that
-// does not hold the run, whether glyphs are written for it, and the value that it answers.
+// What an accepted call comes to, before a word is written: the places and limits that it leaves, which an act may amend, whether its output
+// moves to the slice that does not hold the run, whether there is an act, and the value that it answers, but for `sync`, which answers 1
+// where there is none.
 #[derive(Clone, Copy)]
 pub struct Verdict {
     pub idx: usize,

@@ -1,11 +1,11 @@
-// Moves of glyphs between the input and the output, by places, in whichever slice the output lies. Which it is, the state says as the call
-// runs: a closure would be chosen by the same `if`.
+// Moves of glyphs between the input and the output, from a place to a place and how many, as copies, in whichever slice the output lies.
+// Which it is, the state says as the call runs: a closure would be chosen by the same `if`.
 ghost use Rattle.std.specs.Prelude.{◌≡◌, cond, ◌+◌, ◌≤◌, length};
 ghost use Rattle.records.specs.View.{glyphs};
 ghost use Rattle.lists.specs.inner.Copied.{copied};
 ghost use Rattle.lists.specs.inner.Moving.{Carried, Carriable, Passable, Moved, Movable};
 
-use super::Lists;
+use super::{Lists, copies};
 
 // n glyphs of the run, from place `from` on, go to place `to` of the output. Where they lie there already, nothing is written.
 #[tactic(auto, using(crate::proofs::Carrying::carrying))]
@@ -21,13 +21,10 @@ pub(crate) fn carry(
     ensures { Carried separate from to n run.old other.old run.new other.new }
 {
     if separate {
-        super::copies::copy_across(run, other, from, to, n);
+        copies::copy_across(run, other, from, to, n);
         return;
     }
-    if from == to {
-        return;
-    }
-    super::copies::copy_down(run, from, to, n);
+    copies::copy_within(run, from, to, n);
 }
 
 // n glyphs of the output, from place `from` on, go to place `to` of the run.
@@ -37,25 +34,10 @@ fn carry_back(run: &mut [u32], other: &mut [u32], separate: bool, from: usize, t
     ensures { (glyphs run.new ≡ copied (glyphs run.old) to (cond separate (glyphs other.old) (glyphs run.old)) from n) × (other.new ≡ other.old) }
 {
     if separate {
-        super::copies::copy_across(other, run, from, to, n);
+        copies::copy_across(other, run, from, to, n);
         return;
     }
-    if from == to {
-        return;
-    }
-    super::copies::copy_within(run, from, to, n);
-}
-
-// n glyphs of the run go up, from place `from` to place `to`.
-#[tactic(auto, using(crate::proofs::Carrying::carrying))]
-fn shift_forward(run: &mut [u32], from: usize, to: usize, n: usize)
-    requires { (from + n ≤ length (glyphs run.old)) × (to + n ≤ length (glyphs run.old)) }
-    ensures { glyphs run.new ≡ copied (glyphs run.old) to (glyphs run.old) from n }
-{
-    if from == to {
-        return;
-    }
-    super::copies::copy_within(run, from, to, n);
+    copies::copy_within(run, from, to, n);
 }
 
 // What the cursor's move carries, from the places before it and the lengths after it: forward, or up and then back.
@@ -76,6 +58,6 @@ pub(crate) fn move_run(
     }
     let at = lists.idx + (len_after - lists.len);
     let n = lists.out_len - out_after;
-    shift_forward(run, lists.idx, at, lists.len - lists.idx);
+    copies::copy_within(run, lists.idx, at, lists.len - lists.idx);
     carry_back(run, other, lists.separate, out_after, at - n, n);
 }

@@ -1,6 +1,8 @@
-// Ranges of glyphs: searched, and changed glyph by glyph. A range ends before its end.
-// It is two places and no part of the slice: places count glyphs, and only `records` knows where their words lie.
-// It is no `Range` of std either: one of those may end before its start, so that `s ≤ e` would stand in each contract all the same.
+// Ranges of glyphs: searched, and changed glyph by glyph. The end is not in the range.
+// It is two places and no part of the slice: only `records` knows where words lie, how many glyphs a part holds would be counted again, by a
+// division, and a part that is to be written does not prove.
+// It is no `Range` of std: one of those may end before its start, so that `s ≤ e` would stand in each contract all the same. A pair of our own
+// would need that as its invariant, and each caller would make one of its two places.
 ghost use Rattle.std.specs.Prelude.{◌≡◌, ◌+◌, ◌-◌, ◌≤◌, length};
 ghost use Rattle.std.proofs.Math.Seq.{slice};
 ghost use Rattle.records.specs.Glyphs.{set_cluster, flagged, flagged_unless};

@@ -1,5 +1,5 @@
-// Ranges of glyphs, or of positions, the other way round: the two ends are exchanged, towards the middle.
-// The exchanges are counted: LLVM then has one number for the end of the loop.
+// Ranges of glyphs, or of positions, the other way round: the first is exchanged with the last, the next with the one before that, and so on,
+// half as many exchanges as there are items.
 ghost use Rattle.std.specs.Prelude.{◌≡◌, ◌<◌, ◌≤◌, length};
 ghost use Rattle.records.specs.View.{glyphs};
 ghost use Rattle.lists.specs.inner.Turned.{turned, exchange};
@@ -28,7 +28,7 @@ pub fn reverse<T: Stored>(ws: &mut [u32], s: usize, e: usize)
     }
 }
 
-// Of glyphs, as they are seen.
+// Of glyphs as they are seen, as the acts on them speak: `reverse` speaks of `GlyphInfo`s, `map stored (glyphs ws)`.
 #[tactic(auto, using(crate::proofs::Storing::storing))]
 pub fn reverse_glyphs(ws: &mut [u32], s: usize, e: usize)
     requires { (s ≤ e) × (e ≤ length (glyphs ws.old)) }

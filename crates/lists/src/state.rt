@@ -2,8 +2,8 @@
 ghost use Rattle.std.specs.Prelude.{◌≡◌, not, cond, Ok, Err, Some, None};
 ghost use Rattle.lists.specs.Account.{output_phase, positions_phase, spoiled_phase, read_level};
 ghost use Rattle.lists.specs.Contract.{Begins};
-ghost use Rattle.lists.specs.{Contract.gone_of, Contract.in_order, inner.Held.Soundness, inner.Held.Tested, inner.Held.room_for};
-ghost use Rattle.lists.specs.inner.States.{most_output, at_places, lists_of, with_limits_of, fresh_buffer, apart_buffer, opened_buffer, positioned_buffer, swapped_buffer, spoiled_buffer, reply};
+ghost use Rattle.lists.specs.{Contract.gone_of, Contract.in_order, inner.Held.Soundness, inner.Held.Tested, inner.Held.Unspoiled, inner.Held.room_for};
+ghost use Rattle.lists.specs.inner.States.{most_output, at_places, lists_of, with_limits_of, fresh_buffer, apart_buffer, restarted_buffer, positioned_buffer, swapped_buffer, reply};
 
 use super::{Buffer, Lists, Reply};
 use records::{Answer, DonePlace, InputPlace, Limits, Phase, Refusal};
@@ -26,7 +26,7 @@ pub fn is_spoiled(phase: Phase) -> bool
     phase == Phase::Spoiled
 }
 
-// The one place where a level is read: one above 3 reads as 0.
+// A level as document 01 reads it: one above 3 is 0. Only edits `search_level` asks the word itself, whether it is 3.
 #[tactic(auto, unfolding(crate::specs::Account::read_level))]
 pub fn read_level(level: u32) -> u32
     ensures { result ≡ read_level level }
@@ -39,8 +39,7 @@ pub fn read_level(level: u32) -> u32
 fn most_output(b: Buffer) -> usize
     ensures { result ≡ most_output b }
 {
-    let phase = b.phase;
-    if have_output(phase) {
+    if have_output(b.phase) {
         if b.have_separate_output {
             return b.limits.allocated;
         }
@@ -77,6 +76,18 @@ pub fn sound(b: Buffer, first: &[u32], second: &[u32]) -> Result<(), Refusal>
         Ok(())
     } else {
         Err(Refusal::Contradiction)
+    }
+}
+
+// Refusal 2 where the state is spoiled, the second test of most calls.
+#[inline(always)]
+pub(crate) fn unspoiled(b: Buffer) -> Result<(), Refusal>
+    ensures { Unspoiled b result }
+{
+    if is_spoiled(b.phase) {
+        Err(Refusal::WrongPhase)
+    } else {
+        Ok(())
     }
 }
 
@@ -125,6 +136,7 @@ pub fn at_places(b: Buffer, idx: usize, len: usize, out_len: usize) -> Buffer
     }
 }
 
+// The state of 00: no glyph, limits as they are at first, and a level and wants.
 #[tactic(auto, unfolding(crate::specs::inner::States::fresh_buffer))]
 pub fn fresh_buffer(level: u32, wants: u32) -> Buffer
     ensures { result ≡ fresh_buffer level wants }
@@ -155,15 +167,15 @@ impl Buffer {
     }
 }
 
-// The run as input for an output that is empty and lies in the run.
-#[tactic(auto, unfolding(crate::specs::inner::States::opened_buffer))]
-pub(crate) fn opened(b: Buffer) -> Buffer
-    ensures { result ≡ opened_buffer b }
+// The cursor at the start, and no output: in phase Output the run is input once more, and in phase Spoiled no list shows it.
+#[tactic(auto, unfolding(crate::specs::inner::States::restarted_buffer))]
+pub(crate) fn restarted(b: Buffer, phase: Phase) -> Buffer
+    ensures { result ≡ restarted_buffer phase b }
 {
     Buffer {
         idx: InputPlace(0),
         out_len: DonePlace(0),
-        phase: Phase::Output,
+        phase,
         have_separate_output: false,
         ..b
     }
@@ -181,6 +193,7 @@ pub(crate) fn positioned(b: Buffer) -> Buffer
     }
 }
 
+// Whether the second slice holds the run once the output is the run: the slices change places where the output lay apart.
 fn exchanged(swapped: bool, separate: bool) -> bool
     ensures { result ≡ cond separate (not swapped) swapped }
 {
@@ -198,20 +211,6 @@ pub(crate) fn swapped(b: Buffer) -> Buffer
         out_len: DonePlace(0),
         phase: Phase::Plain,
         swapped: exchanged(b.swapped, b.have_separate_output),
-        have_separate_output: false,
-        ..b
-    }
-}
-
-// Each state by its definition: one function of the phase would only be named twice.
-#[tactic(auto, unfolding(crate::specs::inner::States::spoiled_buffer))]
-pub(crate) fn spoiled(b: Buffer) -> Buffer
-    ensures { result ≡ spoiled_buffer b }
-{
-    Buffer {
-        idx: InputPlace(0),
-        out_len: DonePlace(0),
-        phase: Phase::Spoiled,
         have_separate_output: false,
         ..b
     }

@@ -1,4 +1,4 @@
-// Which of the two lent slices, acts on the one that holds the run and the other, and the end of a call that acts.
+// Here one of the two lent slices is picked, acts are made on the one that holds the run and on the other, and a call that acts is replied to.
 ghost use Rattle.std.specs.Prelude.{◌≡◌, cond, true, Ok};
 ghost use Rattle.lists.specs.declared.Verdict.{Verdict};
 ghost use Rattle.lists.specs.inner.Verdicts.{Sided, acts_of, limiting_verdict};
@@ -31,7 +31,7 @@ pub fn act_on<R, F: FnOnce(&mut [u32], &mut [u32]) -> R>(
     }
 }
 
-// What an act gives back: what its call comes to goes by it.
+// What an act gives back, and how it changes what its call comes to.
 pub trait Outcome: Copy {
     ghost amends: { Self → Verdict → Verdict };
 

@@ -4,7 +4,7 @@ ghost use Rattle.lists.specs.inner.States.{at_places};
 ghost use Rattle.lists.specs.inner.Verdicts.{Leaves, failed_buffer, Sized, lies_elsewhere, acts_of, apart_of, settled_buffer, settled, settled_as, synced};
 
 use super::{Buffer, Decision, Reply, Verdict, state};
-use records::{Answer, DonePlace, InputPlace};
+use records::{Answer, DonePlace, InputPlace, Phase};
 
 // The verdict that leaves this state.
 #[inline(always)]
@@ -68,7 +68,7 @@ pub(crate) fn lies_elsewhere(b: Buffer) -> bool
     b.have_separate_output || b.idx.0 != b.out_len.0
 }
 
-// Whether glyphs are written for a call.
+// Whether there is an act for a call. Those of 00 and 03 write no glyph.
 pub fn acts(decision: Decision) -> bool
     ensures { result ≡ acts_of decision }
 {
@@ -129,7 +129,7 @@ pub(crate) fn settled_as(b: Buffer, after: Buffer, decision: Decision) -> Reply
     settled(b, decision)
 }
 
-// The reply of `sync`: the output as the run, or spoiled.
+// The reply of `sync`: the output as the run, with the answer 1, where its verdict has no value; else the value is 0, and the state spoiled.
 #[inline(always)]
 #[tactic(auto, unfolding(crate::specs::inner::Verdicts::synced))]
 pub(crate) fn synced(b: Buffer, decision: Decision) -> Reply
@@ -138,7 +138,7 @@ pub(crate) fn synced(b: Buffer, decision: Decision) -> Reply
     match decision {
         Ok(v) => match v.value {
             None => state::reply(state::swapped(after(b, v)), Ok(Some(1))),
-            Some(x) => state::reply(state::spoiled(b), Ok(Some(x))),
+            Some(x) => state::reply(state::restarted(b, Phase::Spoiled), Ok(Some(x))),
         },
         Err(why) => state::reply(b, Err(why)),
     }

@@ -24,7 +24,7 @@ pub fn rightly_lent(first: &[u32], second: &[u32]) -> bool
     ensures { result ≡ rightly_lent (length first.now) (length second.now) }
 {
     let n = first.len();
-    n == second.len() && n % words::WORDS == 0 && capacity(first) <= 1048576
+    n == second.len() && n % words::WORDS == 0 && capacity(first) <= words::MOST
 }
 
 pub fn get(ws: &[u32], i: usize) -> GlyphInfo
@@ -97,10 +97,12 @@ pub fn key_at(ws: &[u32], i: usize, by: Key) -> u32
     requires { i < length (glyphs ws.now) }
     ensures { result ≡ key by.slot by.mask (get_or (glyphs ws.now) i zero_glyph).info }
 {
-    if by.slot == 0 {
-        return by.mask & words::word_at(ws, GlyphWord::Var0, i);
-    }
-    by.mask & words::word_at(ws, GlyphWord::Var1, i)
+    let var = if by.slot == 0 {
+        GlyphWord::Var0
+    } else {
+        GlyphWord::Var1
+    };
+    by.mask & words::word_at(ws, var, i)
 }
 
 // The low three bits of the given mask are taken only where the cluster changes.

@@ -3,7 +3,7 @@
 
 #![tactic(auto)]
 
-// Below the calls, for the crates above: functions that ask for something, or speak of words and counters and not of an account.
+// Below the calls, for the crates above: functions that have a `requires`, or speak of words and counters and not of an account.
 pub mod bytes;
 pub mod counters;
 pub mod glyphs;
@@ -53,7 +53,8 @@ pub struct Position {
     pub free: u32,
 }
 
-// Which bits of a glyph are its key: those of the mask, of var0 where the slot is 0, else of var1.
+// Which bits of a glyph are its key: those of the mask, of var0 where the slot is 0, else of var1. The slot is document 01's operand, and a
+// number, as the account's `key` takes it: calls refuse one above 1 before a key is read.
 #[derive(Clone, Copy)]
 pub struct Key {
     pub slot: u32,
@@ -66,7 +67,7 @@ pub struct Limits {
     pub allocated: usize,
     pub max_len: usize,
     pub max_ops: u32,
-    // Pushes that stored a glyph since fresh.
+    // Pushes that stored a glyph since fresh; the count stops at the largest word.
     pub pushes: u32,
     pub serial: u8,
     pub successful: bool,

@@ -1,5 +1,5 @@
 // A word of a call as a place, in the input or in *done*, and as a bound.
-ghost use Rattle.std.specs.Prelude.{◌≡◌, ◌==◌, cond, Some, None};
+ghost use Rattle.std.specs.Prelude.{◌≡◌, Some, None};
 
 use super::{DonePlace, InputPlace};
 
@@ -19,9 +19,14 @@ impl From<u32> for DonePlace {
     }
 }
 
-// The place that a word stands for; the highest word is an open bound.
-pub fn bound<P: Copy>(word: u32, place: P) -> Option<P>
-    ensures { result ≡ cond (word == 4294967295) None (Some place) }
+// A word of a call as a bound, in the input or in *done*: the largest word is an open one.
+pub fn bound<P: From<u32>>(word: u32) -> Option<P>
+    ensures open { word ≡ 4294967295 → result ≡ None }
+    ensures place { (word ≡ 4294967295 → ⊥) → (place : P) × P.from_gives word place × (result ≡ Some place) }
 {
-    if word == u32::MAX { None } else { Some(place) }
+    if word == u32::MAX {
+        None
+    } else {
+        Some(P::from(word))
+    }
 }

@@ -1,4 +1,4 @@
-// The words of a slice: a word of glyph i, or of position i. Where it lies, only `place_of` knows.
+// The words of a slice: a word of glyph i, or of position i. Where one lies, only `place_of` knows, and where a glyph ends, `glyphs::first_of`.
 ghost use Rattle.std.specs.Prelude.{◌≡◌, ℕ, ◌^◌, ◌<◌, length};
 ghost use Rattle.records.specs.Counters.{capacity_of, words_for};
 ghost use Rattle.records.specs.{View.word_place, View.word, inner.Stores.Put};
@@ -6,6 +6,9 @@ ghost use Rattle.records.specs.inner.Words.{glyph_word, position_word};
 
 // Words a glyph, and words a position.
 pub const WORDS: usize = 6;
+
+// The most glyphs that a lent slice may hold.
+pub(crate) const MOST: usize = 1048576;
 
 // Which of the six words, by its name.
 pub(crate) trait Word: Copy {
@@ -60,6 +63,7 @@ pub fn words_for(capacity: usize) -> usize
     WORDS * capacity
 }
 
+// Where a word lies. That a word is one of six is said again for the callers: they read it here, and not of the trait.
 #[tactic(auto, unfolding(crate::specs::View::word_place, crate::specs::Counters::capacity_of))]
 fn place_of<W: Word>(words: usize, w: W, i: usize) -> usize
     requires { i < capacity_of words }

@@ -1,4 +1,5 @@
-// Compares lines with a text.
+// Compares lines with a text. Buffer and slices are parameters as callers lend them. Rooms of 96 bytes: a round size above the longest
+// line's 81.
 ghost use Rattle.std.specs.Prelude.{◌≡◌};
 ghost use Rattle.records.specs.Answers.{said};
 ghost use Rattle.commands.specs.Lines.{answer_line, line_of, reported};
@@ -9,7 +10,8 @@ use commands::{lines, reports};
 use lists::Buffer;
 use records::Answer;
 
-// The place after a line, if it stands at a place of the text: the tally's, but no more of the tally is needed. It ends with the only line end in it, so its bytes alone tell.
+// The place after a line, if the line stands at a place of the text. The place is the tally's, but no more of the tally is needed. A line
+// ends with the only line end in it, so its bytes alone tell.
 #[tactic(auto, using(crate::proofs::Bytes::stands_there, crate::proofs::Bytes::stands_nowhere))]
 fn find(line: &[u8], text: &[u8], at: usize) -> Option<usize>
     ensures { Finds line.now text.now at result }
@@ -24,10 +26,8 @@ fn find(line: &[u8], text: &[u8], at: usize) -> Option<usize>
 
 // The place after the line of the text that a place is in.
 fn line_end(text: &[u8], at: usize) -> usize {
-    match text.iter().skip(at).position(|byte| *byte == b'\n') {
-        Some(n) => at + n + 1,
-        None => text.len(),
-    }
+    let end = text.iter().skip(at).position(|byte| *byte == b'\n');
+    end.map_or(text.len(), |n| at + n + 1)
 }
 
 impl Tally {

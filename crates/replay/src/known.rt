@@ -18,6 +18,7 @@ fn space_at(line: &[u8], n: usize) -> usize
     ensures { result ≡ space_at n line.now }
 {
     let mut spaces = line.iter().enumerate().filter(|(_, byte)| **byte == b' ');
+    // By `map_or` the goal stays open: its place comes through a closure, and the laws are about the item found.
     match spaces.nth(n) {
         Some((i, _)) => i,
         None => line.len(),

@@ -4,7 +4,7 @@ use super::reading::Unreadable;
 use std::fmt;
 use std::fmt::Write;
 
-// Standard output, by `io` as its input is. Nothing is done about what it does not take.
+// Standard output, by `io` as its input is. Not driving's `Stdout`: that one ends the run where bytes are not taken; this goes on and counts.
 #[derive(Drop)]
 struct Output;
 

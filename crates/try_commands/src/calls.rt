@@ -33,7 +33,7 @@ impl TryFrom<Order> for Call {
             0x08 => Ok(Call::NextGlyphs(o.a as usize)),
             0x0B => Ok(Call::OutputGlyph(o.a)),
             0x10 => Ok(Call::MoveTo(o.a as usize)),
-            0x11 => Ok(Call::MergeClusters(o.a.into(), o.b.into())),
+            0x11 => Ok(Call::MergeClusters(InputPlace::from(o.a), InputPlace::from(o.b))),
             _ => Err(Refusal::Unreadable),
         }
     }

@@ -27,7 +27,7 @@ fn carry_out(
     calls::make(b, first, second, call)
 }
 
-// The byte that a command's line names.
+// The byte that a command's line names. By `next`, so that this call is driven too: the byte at the place is the same.
 fn byte_at(reader: Script<'_>) -> u8
     requires { reader.place < length reader.bytes.now }
 {
@@ -38,6 +38,7 @@ fn byte_at(reader: Script<'_>) -> u8
 }
 
 fn print_answer(byte: u8, answer: Answer) {
+    // a round size above the longest line's 81
     let mut out = [0u8; 128];
     let n = commands::lines::answer_line(&mut out, 0, byte, answer);
     printing::print(&out, n);

@@ -9,7 +9,9 @@ use Rattle.lists.specs.{Account.Account, Account.Result, Account.outcome, Contra
 use Rattle.lists.proofs.{Chains.At}
 use Rattle.edits.specs.{Writing.output_glyph, Writing.replace_glyphs, Merging.merge_input, Merging.clusters_merge, Deleting.delete_glyph}
 use Rattle.edits.proofs.{Executable.executable}
-use Rattle.driving.specs.{Answers.told, Starts.started}
+use Rattle.driving.specs.{Starts.started}
+use Rattle.driving.proofs.Telling.{meant, refusal_of}
+use Rattle.records.specs.declared.Refusal.TheVariants.{OutOfRange, BadOperand, OverCapacity}
 
 abbrev pub zeros : List ℕ
 zeros = replicate (words_for 3) 0
@@ -53,25 +55,25 @@ unfolding executable nil a₀ started account account_of shown gone_of state_of 
 at-start e = rw e (record { is = refl; fit = refl; room = refl })
 
 -- too few numbers: 4, before 5
-pub few-told : told (outcome a₁ (few a₁)).answer ≡ Err 4
-unfolding executable told nil a₀ a₁ started state_of gone_of
-few-told = refl
+pub few-answered : meant (outcome a₁ (few a₁)).answer ≡ Err BadOperand
+unfolding executable meant refusal_of nil a₀ a₁ started state_of gone_of
+few-answered = refl
 
 -- past the end: 3
-pub past-told : told (outcome a₂ (past a₂)).answer ≡ Err 3
-unfolding executable told nil a₀ a₁ a₂ started state_of gone_of
-past-told = refl
+pub past-answered : meant (outcome a₂ (past a₂)).answer ≡ Err OutOfRange
+unfolding executable meant refusal_of nil a₀ a₁ a₂ started state_of gone_of
+past-answered = refl
 
-pub full-told : told (outcome a₃ (full a₃)).answer ≡ Ok None
-unfolding executable told nil a₀ a₁ a₂ a₃ started state_of gone_of
-full-told = refl
+pub full-answered : meant (outcome a₃ (full a₃)).answer ≡ Ok None
+unfolding executable meant refusal_of nil a₀ a₁ a₂ a₃ started state_of gone_of
+full-answered = refl
 
 -- beyond the capacity: 5
-pub over-told : told (outcome a₄ (over a₄)).answer ≡ Err 5
-unfolding executable told nil a₀ a₁ a₂ a₃ a₄ started state_of gone_of
-over-told = refl
+pub over-answered : meant (outcome a₄ (over a₄)).answer ≡ Err OverCapacity
+unfolding executable meant refusal_of nil a₀ a₁ a₂ a₃ a₄ started state_of gone_of
+over-answered = refl
 
 -- nothing left to delete: 3
-pub none-told : told (outcome a₅ (delete_glyph a₅)).answer ≡ Err 3
-unfolding executable told nil a₀ a₁ a₂ a₃ a₄ a₅ started state_of gone_of
-none-told = refl
+pub none-answered : meant (outcome a₅ (delete_glyph a₅)).answer ≡ Err OutOfRange
+unfolding executable meant refusal_of nil a₀ a₁ a₂ a₃ a₄ a₅ started state_of gone_of
+none-answered = refl

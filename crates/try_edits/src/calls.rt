@@ -9,7 +9,7 @@ use lists::{Buffer, Reply, cursor, state};
 use records::operands::bound;
 use records::{DonePlace, GlyphInfo, InputPlace, Refusal};
 
-// The operands of 0C: a glyph. No function of five words, shared with commands: here each word stands beside its name.
+// The operands of 0C: a glyph. Not one function shared with commands: it would take five bare words; here each stands beside its name.
 fn glyph(c: Call) -> GlyphInfo {
     GlyphInfo {
         glyph: c.v,
@@ -21,13 +21,10 @@ fn glyph(c: Call) -> GlyphInfo {
     }
 }
 
-// 15 to 19, between bounds.
+// 15 to 19, between bounds: `call` hands on no other number. Not by commands: this drives edits alone.
 fn flag(b: Buffer, first: &mut [u32], second: &mut [u32], c: Call) -> Reply {
-    let (start, end) = (
-        bound(c.v, InputPlace::from(c.v)),
-        bound(c.w, InputPlace::from(c.w)),
-    );
-    let from = bound(c.v, DonePlace::from(c.v));
+    let (start, end) = (bound(c.v), bound(c.w));
+    let from = bound(c.v);
     match c.number {
         0x15 => flagging::unsafe_to_break(b, first, second, start, end),
         0x16 => flagging::unsafe_to_concat(b, first, second, start, end),
@@ -37,7 +34,8 @@ fn flag(b: Buffer, first: &mut [u32], second: &mut [u32], c: Call) -> Reply {
     }
 }
 
-// The numbers of 0E are always three.
+// The call that has this number, with its operands; a number that is not here is answered as unreadable. Not by commands: this drives
+// edits alone.
 pub(crate) fn call(b: Buffer, first: &mut [u32], second: &mut [u32], c: Call) -> Reply {
     let n = c.v as usize;
     let (start, end) = (InputPlace::from(c.v), InputPlace::from(c.w));
@@ -55,6 +53,7 @@ pub(crate) fn call(b: Buffer, first: &mut [u32], second: &mut [u32], c: Call) ->
         0x0B => writing::output_glyph(b, first, second, c.v),
         0x0C => writing::output_info(b, first, second, glyph(c)),
         0x0D => replacing::replace_glyph(b, first, second, c.v),
+        // three glyph numbers, whatever count the operand says
         0x0E => replacing::replace_glyphs(b, first, second, n, c.w as usize, &[90, 91, 92]),
         0x0F => deleting::delete_glyph(b, first, second),
         0x11 => merges::merge_clusters(b, first, second, start, end),

@@ -3,6 +3,7 @@
 #![tactic(auto)]
 
 ghost use Rattle.std.specs.Prelude.{◌≡◌, ◌∷◌, []};
+ghost use Rattle.records.specs.declared.Refusal.TheVariants.{OutOfRange, BadOperand, OverCapacity};
 
 mod calls;
 mod runs;
@@ -11,12 +12,12 @@ mod scripts;
 mod show;
 mod whole_runs;
 
-use driving::{answers, starts};
+use driving::starts;
 use edits::deleting::delete_glyph;
 use edits::merges::merge_clusters;
 use edits::replacing::replace_glyphs;
 use edits::writing::output_glyph;
-use records::InputPlace;
+use records::{Answer, InputPlace, Refusal};
 use std::fmt;
 
 // Slices for so many glyphs.
@@ -27,8 +28,8 @@ const SIX: usize = 6 * records::words::WORDS;
 const SEVEN: usize = 7 * records::words::WORDS;
 
 // Too few numbers, which comes before the capacity; past the end; done; beyond the capacity; nothing left to delete.
-fn answers() -> [Result<Option<u32>, u32>; 5]
-    ensures { result ≡ Err 4 ∷ Err 3 ∷ Ok None ∷ Err 5 ∷ Err 3 ∷ [] }
+fn answers() -> [Answer; 5]
+    ensures { result ≡ Err BadOperand ∷ Err OutOfRange ∷ Ok None ∷ Err OverCapacity ∷ Err OutOfRange ∷ [] }
 {
     let mut first = [0u32; THREE];
     let mut second = [0u32; THREE];
@@ -40,22 +41,22 @@ fn answers() -> [Result<Option<u32>, u32>; 5]
     let over = output_glyph(full.buffer, &mut first, &mut second, 93);
     let none = delete_glyph(over.buffer, &mut first, &mut second);
     [
-        answers::told(few.answer),
-        answers::told(past.answer),
-        answers::told(full.answer),
-        answers::told(over.answer),
-        answers::told(none.answer),
+        few.answer,
+        past.answer,
+        full.answer,
+        over.answer,
+        none.answer,
     ]
 }
 
 // Answers that are proved before the program runs: each `expect` is a fact of the contracts.
 fn expected() {
     let [few, past, full, over, none] = answers();
-    check::expect(few == Err(4));
-    check::expect(past == Err(3));
+    check::expect(few == Err(Refusal::BadOperand));
+    check::expect(past == Err(Refusal::OutOfRange));
     check::expect(full == Ok(None));
-    check::expect(over == Err(5));
-    check::expect(none == Err(3));
+    check::expect(over == Err(Refusal::OverCapacity));
+    check::expect(none == Err(Refusal::OutOfRange));
 }
 
 fn play() -> fmt::Result {

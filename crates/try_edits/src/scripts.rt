@@ -19,6 +19,7 @@ pub(crate) struct Call {
     pub z: u32,
 }
 
+// Digit by digit: a word is bytes here, and `from_str_radix` and `parse` read a text, and may take a sign.
 fn number(tens: u8, ones: u8) -> Option<u32> {
     let tens = (tens as char).to_digit(16)?;
     let ones = (ones as char).to_digit(16)?;

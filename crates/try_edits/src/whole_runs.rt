@@ -156,7 +156,7 @@ fn at(level: u32, wants: u32) -> fmt::Result {
     flagging_output(level, wants)
 }
 
-// A level above 3 reads as 0, in a state that is handed in too.
+// A level above 3 reads as 0.
 fn above() -> fmt::Result {
     reversing_graphemes(4)?;
     sorting(4)?;

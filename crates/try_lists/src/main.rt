@@ -3,13 +3,14 @@
 #![tactic(auto)]
 
 ghost use Rattle.std.specs.Prelude.{◌≡◌, ◌∷◌, []};
+ghost use Rattle.records.specs.declared.Refusal.TheVariants.{WrongPhase, OutOfRange};
 ghost use Rattle.driving.specs.Starts.{started};
 
-use driving::answers::{self, Printed};
+use driving::answers::Printed;
 use driving::output::Stdout;
 use driving::{glyphs, starts};
 use lists::{Buffer, Reply, cursor};
-use records::{DonePlace, GlyphInfo};
+use records::{Answer, DonePlace, GlyphInfo, Refusal};
 use std::fmt;
 use std::fmt::Write;
 
@@ -103,8 +104,8 @@ fn plain(b: Buffer, first: &mut [u32], second: &mut [u32]) -> Result<Buffer, fmt
 }
 
 // The cursor over the run: too far, there, back, and `sync` once more than there is output.
-fn answers() -> [Result<Option<u32>, u32>; 5]
-    ensures { result ≡ Err 3 ∷ Ok None ∷ Ok (Some 1) ∷ Ok (Some 1) ∷ Err 2 ∷ [] }
+fn answers() -> [Answer; 5]
+    ensures { result ≡ Err OutOfRange ∷ Ok None ∷ Ok (Some 1) ∷ Ok (Some 1) ∷ Err WrongPhase ∷ [] }
 {
     let mut first = [0u32; WORDS];
     let mut second = [0u32; WORDS];
@@ -115,22 +116,22 @@ fn answers() -> [Result<Option<u32>, u32>; 5]
     let synced = cursor::sync(back.buffer, &mut first, &mut second);
     let again = cursor::sync(synced.buffer, &mut first, &mut second);
     [
-        answers::told(far.answer),
-        answers::told(there.answer),
-        answers::told(back.answer),
-        answers::told(synced.answer),
-        answers::told(again.answer),
+        far.answer,
+        there.answer,
+        back.answer,
+        synced.answer,
+        again.answer,
     ]
 }
 
 // Each answer is proved before the program runs: an `expect` is a fact of the contracts.
 fn expected() {
     let [far, there, back, synced, again] = answers();
-    check::expect(far == Err(3));
+    check::expect(far == Err(Refusal::OutOfRange));
     check::expect(there == Ok(None));
     check::expect(back == Ok(Some(1)));
     check::expect(synced == Ok(Some(1)));
-    check::expect(again == Err(2));
+    check::expect(again == Err(Refusal::WrongPhase));
 }
 
 fn drive(first: &mut [u32], second: &mut [u32], short: &[u32]) -> fmt::Result {

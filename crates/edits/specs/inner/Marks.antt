@@ -1,8 +1,8 @@
 -- What the functions that flag ask for and leave, over the glyphs of whole slices, and what is promised of the verdicts. Places count in the slices.
 use Rattle.lists.specs.inner.States.{Decision}
 use Rattle.lists.specs.inner.Verdicts.{leaving}
-use mathlib.Core.{Path.◌≡◌, Bool.Bool, Bool.true, Bool.false, Bool.cond, Bool.not, Bool.◌||◌, List.List}
-use Rattle.std.specs.Prelude.{Option, None, Err, ℕ, ◌-◌, ◌≤◌, min}
+use mathlib.Core.{Path.◌≡◌, Bool.Bool, Bool.true, Bool.false, Bool.cond, Bool.◌||◌, List.List}
+use Rattle.std.specs.Prelude.{Option, None, Some, Err, ℕ, ◌-◌, ◌≤◌, min}
 use lib.{Dec.ltb, ListN.length, Seq.slice}
 use Rattle.records.specs.{DonePlace, InputPlace, Contradiction, WrongPhase, OutOfRange, Glyphs.Glyph, Glyphs.flagged, Ranges.clusters, Ranges.edit, View.glyphs}
 use Rattle.lists.specs.{declared.Buffer.Buffer, declared.Lists.Lists, declared.Reply.Reply}
@@ -17,6 +17,11 @@ flagged_run interiorly level bits s e l =
 -- one of the two ranges after an outbuffer form, which sought m
 unfoldable pub flagged_part : (interiorly : Bool) → (level m bits i j : ℕ) → List (Glyph ℕ) → List (Glyph ℕ)
 flagged_part interiorly level m bits i j l = cond interiorly (interior level m bits i j l) (edit i j (flagged bits) l)
+
+-- the same by what it sought, if anything
+unfoldable pub marked_part : Option ℕ → (level bits i j : ℕ) → List (Glyph ℕ) → List (Glyph ℕ)
+marked_part (Some m) level bits i j l = interior level m bits i j l
+marked_part None level bits i j l = edit i j (flagged bits) l
 
 -- the cluster that an outbuffer form seeks: from place s of the output on, and from the cursor to place e of the run
 unfoldable pub sought_out : (level s out_length idx e : ℕ) → (run out : List (Glyph ℕ)) → ℕ
@@ -46,10 +51,10 @@ pub record Flagged (interiorly : Bool) (level bits i j : ℕ) (run other run' ot
 
 -- an outbuffer form: the output's glyphs, then the run's
 pub record OutFlagged (interiorly : Bool) (level bits : ℕ) (at : Lists) (s e : ℕ) (run other run' other' : List ℕ) : Type 0 where
-  pub m : ℕ
-  pub m-is : interiorly ≡ true → m ≡ sought_out level s at.out_len at.idx e (glyphs run) (cond at.separate (glyphs other) (glyphs run))
-  pub apart : at.separate ≡ true → (glyphs run' ≡ flagged_part interiorly level m bits at.idx e (glyphs run)) × (glyphs other' ≡ flagged_part interiorly level m bits s at.out_len (glyphs other))
-  pub within : at.separate ≡ false → (glyphs run' ≡ flagged_part interiorly level m bits at.idx e (flagged_part interiorly level m bits s at.out_len (glyphs run))) × (other' ≡ other)
+  pub m : Option ℕ
+  pub m-is : m ≡ cond interiorly (Some (sought_out level s at.out_len at.idx e (glyphs run) (cond at.separate (glyphs other) (glyphs run)))) None
+  pub apart : at.separate ≡ true → (glyphs run' ≡ marked_part m level bits at.idx e (glyphs run)) × (glyphs other' ≡ marked_part m level bits s at.out_len (glyphs other))
+  pub within : at.separate ≡ false → (glyphs run' ≡ marked_part m level bits at.idx e (marked_part m level bits s at.out_len (glyphs run))) × (other' ≡ other)
 
 -- the decision of a form, by its tests: whether the phase is wrong, whether it does nothing, and whether a place lies outside
 unfoldable pub flag_verdict : Buffer → (first second : List ℕ) → (wrong_phase idle outside : Bool) → Decision
@@ -60,9 +65,9 @@ pub record FlagVerdict (b : Buffer) (f s : List ℕ) (wrong_phase idle outside :
   pub is : d ≡ flag_verdict b f s wrong_phase idle outside
 
 -- what is promised of a plain form: `bits` is what some function of wants has at the buffer's
-pub record PlainMeets (concat : Bool) (bits : ℕ) (start end : Option InputPlace) (b : Buffer) (f s : List ℕ) (r : Reply) (f' s' : List ℕ) : Type 0 where
-  pub is : (g : ℕ → ℕ) → bits ≡ g b.wants → Meets (λ capacity a. plain_form (not concat) (not concat || wants_concat a.state.wants) (g a.state.wants) start end a) b f s r f' s'
+pub record PlainMeets (interiorly : Bool) (bits : ℕ) (start end : Option InputPlace) (b : Buffer) (f s : List ℕ) (r : Reply) (f' s' : List ℕ) : Type 0 where
+  pub is : (g : ℕ → ℕ) → bits ≡ g b.wants → Meets (λ capacity a. plain_form interiorly (interiorly || wants_concat a.state.wants) (g a.state.wants) start end a) b f s r f' s'
 
 -- and of an outbuffer form
-pub record OutMeets (concat : Bool) (bits : ℕ) (start : Option DonePlace) (end : Option InputPlace) (b : Buffer) (f s : List ℕ) (r : Reply) (f' s' : List ℕ) : Type 0 where
-  pub is : (g : ℕ → ℕ) → bits ≡ g b.wants → Meets (λ capacity a. outbuffer_form (not concat) (not concat || wants_concat a.state.wants) (g a.state.wants) start end a) b f s r f' s'
+pub record OutMeets (interiorly : Bool) (bits : ℕ) (start : Option DonePlace) (end : Option InputPlace) (b : Buffer) (f s : List ℕ) (r : Reply) (f' s' : List ℕ) : Type 0 where
+  pub is : (g : ℕ → ℕ) → bits ≡ g b.wants → Meets (λ capacity a. outbuffer_form interiorly (interiorly || wants_concat a.state.wants) (g a.state.wants) start end a) b f s r f' s'

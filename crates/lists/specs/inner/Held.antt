@@ -3,9 +3,9 @@ use mathlib.Core.{Path.◌≡◌, Bool.Bool, Bool.true, Bool.false, Bool.cond, B
 use Rattle.std.specs.Prelude.{Result, Ok, Err}
 use Rattle.std.specs.Prelude.{ℕ, ◌≤◌}
 use lib.{Dec.leb, Dec.ltb, ListN.length}
-use Rattle.records.specs.{Limits, Refusal, Contradiction, OverCapacity, View.glyphs, View.Whole}
+use Rattle.records.specs.{Limits, Refusal, Contradiction, WrongPhase, OverCapacity, View.glyphs, View.Whole}
 use Rattle.lists.specs.{declared.Buffer.Buffer}
-use Rattle.lists.specs.{Account.output_phase, Contract.sound}
+use Rattle.lists.specs.{Account.output_phase, Account.spoiled_phase, Contract.sound}
 
 -- the test of it, by t
 pub record Soundness (b : Buffer) (f s : List ℕ) (t : Bool) : Type 0 where
@@ -17,6 +17,10 @@ Test = Result (Unit {0}) Refusal
 
 pub record Tested (b : Buffer) (f s : List ℕ) (t : Test) : Type 0 where
   pub is : t ≡ cond (sound b f s) (Ok tt) (Err Contradiction)
+
+-- refusal 2 of a spoiled state
+pub record Unspoiled (b : Buffer) (t : Test) : Type 0 where
+  pub is : t ≡ cond (spoiled_phase b.phase) (Err WrongPhase) (Ok tt)
 
 -- the same as facts, for the functions below the exported ones
 pub record Held (b : Buffer) (run other : List ℕ) : Type 0 where

@@ -2,7 +2,7 @@
 use mathlib.Core.{Bool.true, Bool.false, Bool.cond, Bool.not}
 use Rattle.std.specs.Prelude.{ℕ}
 use Rattle.std.specs.Prelude.{Result}
-use Rattle.records.specs.{Plain, Output, Positions, Spoiled, Limits, Refusal, Answer, Counters.fresh_limits}
+use Rattle.records.specs.{Phase, Plain, Output, Positions, Spoiled, Limits, Refusal, Answer, Counters.fresh_limits}
 use Rattle.lists.specs.{declared.Buffer.Buffer, declared.Lists.Lists, declared.Reply.Reply, declared.Verdict.Verdict}
 use Rattle.lists.specs.Account.{output_phase}
 
@@ -29,8 +29,9 @@ fresh_buffer level wants = record { idx = record { 0 = 0 }; len = record { 0 = 0
 unfoldable pub apart_buffer : Buffer → Buffer
 apart_buffer b = record { idx = b.idx; len = b.len; out_len = b.out_len; phase = b.phase; limits = b.limits; level = b.level; wants = b.wants; swapped = b.swapped; have_separate_output = true }
 
-unfoldable pub opened_buffer : Buffer → Buffer
-opened_buffer b = record { idx = record { 0 = 0 }; len = b.len; out_len = record { 0 = 0 }; phase = Output; limits = b.limits; level = b.level; wants = b.wants; swapped = b.swapped; have_separate_output = false }
+-- the cursor at the start, and no output
+unfoldable pub restarted_buffer : Phase → Buffer → Buffer
+restarted_buffer phase b = record { idx = record { 0 = 0 }; len = b.len; out_len = record { 0 = 0 }; phase = phase; limits = b.limits; level = b.level; wants = b.wants; swapped = b.swapped; have_separate_output = false }
 
 unfoldable pub positioned_buffer : Buffer → Buffer
 positioned_buffer b = record { idx = b.idx; len = b.len; out_len = record { 0 = 0 }; phase = Positions; limits = b.limits; level = b.level; wants = b.wants; swapped = b.swapped; have_separate_output = false }
@@ -38,8 +39,11 @@ positioned_buffer b = record { idx = b.idx; len = b.len; out_len = record { 0 = 
 unfoldable pub swapped_buffer : Buffer → Buffer
 swapped_buffer b = record { idx = record { 0 = 0 }; len = record { 0 = b.out_len.0 }; out_len = record { 0 = 0 }; phase = Plain; limits = b.limits; level = b.level; wants = b.wants; swapped = cond b.have_separate_output (not b.swapped) b.swapped; have_separate_output = false }
 
-unfoldable pub spoiled_buffer : Buffer → Buffer
-spoiled_buffer b = record { idx = record { 0 = 0 }; len = b.len; out_len = record { 0 = 0 }; phase = Spoiled; limits = b.limits; level = b.level; wants = b.wants; swapped = b.swapped; have_separate_output = false }
+abbrev pub opened_buffer : Buffer → Buffer
+opened_buffer b = restarted_buffer Output b
+
+abbrev pub spoiled_buffer : Buffer → Buffer
+spoiled_buffer b = restarted_buffer Spoiled b
 
 -- the last of refusal 1's tests, as a bound: how much output there can be
 unfoldable pub most_output : Buffer → ℕ

@@ -1,4 +1,4 @@
--- With these laws named on the function in place of the answers, the check does not close them.
+-- With these laws, renamed, on the function in place of the answers, the check does not close them.
 use Rattle.commands.proofs.ProgramLaws.{runs-fresh}
 use borrow.Author.Rules.{rules}
 use Rattle.printing.proofs.play_fresh.Goals as goal

@@ -2,8 +2,8 @@
 use Rattle.std.proofs.Common.{◌∙◌, refl}
 use Rattle.records.specs.Counters.{words_for}
 use Rattle.lists.proofs.Chains.{leaves}
-use Rattle.driving.proofs.Telling.{told_of}
-use Rattle.try_edits.proofs.Run.{a₁, a₂, a₃, a₄, a₅, at-start, few-told, past-told, full-told, over-told, none-told}
+use Rattle.driving.proofs.Telling.{answered}
+use Rattle.try_edits.proofs.Run.{a₁, a₂, a₃, a₄, a₅, at-start, few-answered, past-answered, full-answered, over-answered, none-answered}
 use Rattle.try_edits.proofs.answers.Goals as goal
 
 pub returns : goal.returns
@@ -15,9 +15,9 @@ returns c =
     let full = leaves c.replace_glyphs-full.ensures past c.replace_glyphs-full.auto.first in
     let over = leaves c.output_glyph-over.ensures full c.output_glyph-over.auto.first in
     rw (
-      told_of c.told.ensures c.replace_glyphs-few.ensures opened ∙ few-told,
-      told_of c.told-2.ensures c.merge_clusters-past.ensures few ∙ past-told,
-      told_of c.told-3.ensures c.replace_glyphs-full.ensures past ∙ full-told,
-      told_of c.told-4.ensures c.output_glyph-over.ensures full ∙ over-told,
-      told_of c.told-5.ensures c.delete_glyph-none.ensures over ∙ none-told,
+      answered c.replace_glyphs-few.ensures opened ∙ few-answered,
+      answered c.merge_clusters-past.ensures few ∙ past-answered,
+      answered c.replace_glyphs-full.ensures past ∙ full-answered,
+      answered c.output_glyph-over.ensures full ∙ over-answered,
+      answered c.delete_glyph-none.ensures over ∙ none-answered,
     )

@@ -2,8 +2,8 @@
 use Rattle.std.proofs.Common.{◌∙◌, refl}
 use Rattle.records.specs.Counters.{words_for}
 use Rattle.lists.proofs.Chains.{leaves}
-use Rattle.driving.proofs.Telling.{told_of}
-use Rattle.try_lists.proofs.Run.{a₁, a₂, a₃, a₄, a₅, at-start, far-told, there-told, back-told, synced-told, again-told}
+use Rattle.driving.proofs.Telling.{answered}
+use Rattle.try_lists.proofs.Run.{a₁, a₂, a₃, a₄, a₅, at-start, far-answered, there-answered, back-answered, synced-answered, again-answered}
 use Rattle.try_lists.proofs.answers.Goals as goal
 
 pub returns : goal.returns
@@ -15,9 +15,9 @@ returns c =
     let back = leaves c.move_to-back.ensures there c.move_to-back.auto.first in
     let synced = leaves c.sync-synced.ensures back c.sync-synced.auto.first in
     rw (
-      told_of c.told.ensures c.next_glyphs-far.ensures opened ∙ far-told,
-      told_of c.told-2.ensures c.next_glyphs-there.ensures far ∙ there-told,
-      told_of c.told-3.ensures c.move_to-back.ensures there ∙ back-told,
-      told_of c.told-4.ensures c.sync-synced.ensures back ∙ synced-told,
-      told_of c.told-5.ensures c.sync-again.ensures synced ∙ again-told,
+      answered c.next_glyphs-far.ensures opened ∙ far-answered,
+      answered c.next_glyphs-there.ensures far ∙ there-answered,
+      answered c.move_to-back.ensures there ∙ back-answered,
+      answered c.sync-synced.ensures back ∙ synced-answered,
+      answered c.sync-again.ensures synced ∙ again-answered,
     )

@@ -1,4 +1,4 @@
--- With these laws named on the function in place of the answers, the check does not close them.
+-- With these laws, renamed, on the function in place of the answers, the check does not close them.
 use Rattle.commands.specs.Lines.{ending}
 use Rattle.commands.proofs.Writes.{glyph-put, writing}
 use Rattle.commands.proofs.lines.write_glyph.Goals as goal

@@ -1,4 +1,4 @@
--- With these laws named on the function in place of the answers, the check does not close them.
+-- With these laws, renamed, on the function in place of the answers, the check does not close them.
 use Rattle.std.proofs.Common.{rules}
 use Rattle.commands.proofs.MadeLaws.{made-runs}
 use Rattle.commands.proofs.runs.run.Goals as goal

@@ -1,4 +1,4 @@
--- With these laws named on the function in place of the answers, the check does not close them.
+-- With these laws, renamed, on the function in place of the answers, the check does not close them.
 use Rattle.commands.proofs.StepLaws.{step-obeyed, step-unread}
 use Rattle.commands.proofs.steps.step.Goals as goal
 

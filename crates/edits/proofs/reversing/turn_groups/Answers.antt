@@ -1,3 +1,4 @@
+-- With the laws of the second answer named on the function, the check does not close it.
 use Rattle.std.proofs.Common.{zero-le, rules}
 use Rattle.edits.proofs.GroupTurns.{turning-room, turns_each}
 use Rattle.edits.proofs.WholeCalls.{run-lengths}

@@ -1,10 +1,10 @@
 -- With these laws named on the function, the check does not close these.
-use Rattle.lists.proofs.Decisions.{settles-refused, turned}
-use Rattle.lists.proofs.CursorCalls.{cursor_calls}
+use Rattle.lists.proofs.Decisions.{settles-refused}
+use Rattle.lists.proofs.CursorCalls.{cursor_calls, enter-spoiled}
 use Rattle.lists.proofs.deciding.enter_verdict.Goals as goal
 
-pub returns-then-is_spoiled : goal.returns-then-is_spoiled
-returns-then-is_spoiled c = settles-refused (search cursor_calls) (search cursor_calls) (turned _)
+pub returns-in_err-unspoiled : goal.returns-in_err-unspoiled
+returns-in_err-unspoiled c = settles-refused (search cursor_calls) (enter-spoiled (search cursor_calls)) (search cursor_calls)
 
 pub returns-in_err-sound : goal.returns-in_err-sound
 returns-in_err-sound c = search cursor_calls

@@ -2,8 +2,8 @@
 use Rattle.lists.proofs.CursorCalls.{cursor_calls}
 use Rattle.lists.proofs.deciding.next_verdict.Goals as goal
 
-pub returns-then-is_spoiled : goal.returns-then-is_spoiled
-returns-then-is_spoiled c = search cursor_calls
+pub returns-in_err-unspoiled : goal.returns-in_err-unspoiled
+returns-in_err-unspoiled c = search cursor_calls
 
 pub returns-then-b-n : goal.returns-then-b-n
 returns-then-b-n c = search cursor_calls

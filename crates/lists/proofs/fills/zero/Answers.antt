@@ -1,4 +1,5 @@
 -- The range is zero up to i.
+-- With these laws named on the function in place of the answer, the check does not close it.
 use Rattle.lists.proofs.Filling.{filling}
 use borrow.Author.Rules.{rules}
 use Rattle.lists.proofs.fills.zero.Goals as goal

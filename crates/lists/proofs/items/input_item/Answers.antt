@@ -1,14 +1,10 @@
 use native.Mathlib.Omega.{arith}
-use Rattle.lists.proofs.Accounts.{gone-within, places-in}
+use Rattle.lists.proofs.Accounts.{gone-within}
 use Rattle.lists.proofs.ItemLaws.{passed-at, rest_at, placed_at}
-use borrow.Author.Rules.{rules}
 use Rattle.lists.proofs.items.input_item.Goals as goal
 
 pub overflow_sub-n : goal.overflow_sub-n
 overflow_sub-n c = omega (arith, gone-within)
-
-pub position_item-requires : goal.position_item-requires
-position_item-requires c = search (places-in, rules)
 
 pub returns-then-n-k : goal.returns-then-n-k
 returns-then-n-k c = placed_at _ _ _ (search) _ (search) (search) c.position_item.ensures

@@ -1,4 +1,4 @@
--- With these laws named on the function in place of the answers, the check does not close them.
+-- With these laws, renamed, on the function in place of the answers, the check does not close them.
 use Rattle.commands.proofs.TextLaws.{filling-more}
 use Rattle.commands.proofs.texts.Source.put_text.Goals as goal
 
