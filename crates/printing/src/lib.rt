@@ -15,35 +15,42 @@ use lists::Buffer;
 // The longest input that is taken.
 const INPUT: usize = 262144;
 
+// Room for it, and for one byte more.
+pub fn script_room() -> [u8; 262145]
+    ensures { 262145 ≡ length result }
+{
+    [0; 262145]
+}
+
 // Slices for 2,048 glyphs. They are arrays of the program, lent as slices: a type of the array would stand in every signature in place of one fact.
 const WORDS: usize = 2048 * records::words::WORDS;
 
 // 4,098 longest lines: the lines `end` and `sum`, and two for each glyph that has room.
 pub const TEXT: usize = 331938;
 
-// Two rooms are functions: written in `program` itself, their lengths are not seen where they are lent.
+// The rooms are functions: written in `program` itself, the lengths of two are not seen where they are lent.
 #[tactic(auto, unfolding(records::specs::Counters::words_for))]
-fn words() -> [u32; WORDS]
+pub fn words() -> [u32; WORDS]
     ensures { words_for 2048 ≡ length result }
 {
     [0; WORDS]
 }
 
-fn text_room() -> [u8; TEXT]
+pub fn text_room() -> [u8; TEXT]
     ensures { TEXT ≡ length result }
 {
     [0; TEXT]
 }
 
 // Whether so many bytes are more than are taken.
-fn is_too_long(n: usize) -> bool
+pub fn is_too_long(n: usize) -> bool
     ensures { result ≡ ltb INPUT n }
 {
     INPUT < n
 }
 
 // The line that stands for everything else then.
-fn print_too_long() {
+pub fn print_too_long() {
     io::write_all(1, b"input longer than 262144 bytes: nothing was run\n");
 }
 
@@ -95,8 +102,7 @@ pub fn play_fresh(first: &mut [u32], second: &mut [u32], script: &[u8], out: &mu
 pub fn program<A: Fn(&mut [u32], &mut [u32], &[u8], &mut [u8]) -> usize>(answer_all: A)
     requires { (first second : _) (script : _) (out : _) → words_for 2048 ≡ length first.now → words_for 2048 ≡ length second.now → TEXT ≡ length out.now → A.pre answer_all first second script out }
 {
-    // the longest input, and one byte more
-    let mut script = [0u8; INPUT + 1];
+    let mut script = script_room();
     let n = io::read_full(0, &mut script);
     if is_too_long(n) {
         print_too_long();
