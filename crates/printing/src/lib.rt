@@ -37,14 +37,14 @@ pub fn words() -> [u32; WORDS]
 }
 
 pub fn text_room() -> [u8; TEXT]
-    ensures { TEXT ≡ length result }
+    ensures { 331938 ≡ length result }
 {
     [0; TEXT]
 }
 
 // Whether so many bytes are more than are taken.
 pub fn is_too_long(n: usize) -> bool
-    ensures { result ≡ ltb INPUT n }
+    ensures { result ≡ ltb 262144 n }
 {
     INPUT < n
 }

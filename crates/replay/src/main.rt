@@ -14,10 +14,8 @@ mod comparing;
 mod known;
 mod playing;
 mod reading;
+mod rooms;
 mod telling;
-
-// 65,537 glyphs, one more than `enter` allows a short run.
-const WORDS: usize = 65537 * records::words::WORDS;
 
 // What was counted. `line` and `at` are where the comparison stands in the text of a list.
 #[derive(Clone, Copy, Default)]
@@ -38,10 +36,10 @@ fn more(n: u64) -> u64
 }
 
 fn main() {
-    let mut first = [0; WORDS];
-    let mut second = [0; WORDS];
-    let mut script = [0; 16384];
-    let mut text = [0; 262144];
+    let mut first = rooms::words();
+    let mut second = rooms::words();
+    let mut script = rooms::script();
+    let mut text = rooms::text();
     let mut tally = Tally::default();
     let mut input = Input::new();
     let read = playing::all(
