@@ -67,8 +67,11 @@ pub fn tell(b: Buffer, out: &mut [u64]) {
         b.swapped as u64,
         b.have_separate_output as u64,
     ];
-    for (place, value) in out.iter_mut().zip(&told) {
-        *place = *value;
+    // Each by itself: a loop over both would be a call of memcpy, which the library would then need from outside.
+    for (i, value) in told.iter().enumerate() {
+        if let Some(place) = out.get_mut(i) {
+            *place = *value;
+        }
     }
 }
 

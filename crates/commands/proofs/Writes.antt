@@ -1,6 +1,6 @@
 -- One write after another, and lines printed where there is room.
 use mathlib.Core.{Path.◌≡◌, Path.refl, Path.ap, Path.sym, Path.◌∙◌, Bool.Bool, Bool.true, Bool.false, Bool.cond, List.List, List.[], List.◌∷◌, List.◌++◌, List.append_assoc, List.map}
-use Prim.Native.Nat.{ℕ, suc, ◌+◌, ◌-◌, ◌≤◌}
+use Prim.Native.Nat.{ℕ, suc, ◌+◌, ◌-◌, ◌/◌, ◌<◌, ◌≤◌, ◌^◌}
 use native.Mathlib.Nat.{add-zero, add-suc, suc-add}
 use native.Mathlib.Omega.{arith}
 use lib.{ListN.length, ListN.set, ListN.take, ListN.length-append, Seq.sets, Seq.sets-eq, Seq.drop-drop}
@@ -11,7 +11,7 @@ use Rattle.records.specs.Answers.{Answer, ok, ok_with, said}
 use Rattle.records.specs.{View.seen, declared.GlyphInfo.GlyphInfo}
 use Rattle.records.proofs.View.{seen-number, seen-mask, seen-cluster, seen-var0, seen-var1, seen-origin}
 use Rattle.lists.specs.{Account.spoiled_phase, declared.Buffer.Buffer}
-use Rattle.commands.specs.{Lines.decimal, Lines.ending, Lines.counters_line, Lines.glyph_line, inner.Writes.end_line_of, inner.Writes.Puts, Texts.Wrote, Texts.Prints, Texts.longest, declared.writer.Writer.Writer}
+use Rattle.commands.specs.{Lines.decimal, Lines.digit_of, Lines.ending, Lines.counters_line, Lines.glyph_line, inner.Writes.end_line_of, inner.Writes.Puts, Texts.Wrote, Texts.Prints, Texts.longest, declared.writer.Writer.Writer}
 use Rattle.commands.proofs.Decimals.{one-digit, more-digits, more_length, word_short, count_short, negative_short}
 
 pub sets-append : (l a b : List ℕ) (i : ℕ) → sets l i (a ++ b) ≡ sets (sets l i a) (i + length a) b
@@ -23,6 +23,14 @@ and_then {l} {m} {n} {a} {b} {at} {k} {r} v w = record {
   list = w.list ∙ (rw (v.list, v.next) (sym (sets-append l a b at)));
   next = rw length-append (let x : r ≡ k + length b = w.next in let y : k ≡ at + length a = v.next in omega arith);
 }
+
+-- one byte
+pub wrote-one : (l : List ℕ) (at x : ℕ) → Wrote (x ∷ []) l at (at + 1) (set l at x)
+wrote-one l at x = record { list = refl; next = refl }
+
+-- the last digit behind the others
+pub wrote-last : {n d at k : ℕ} {l m : List ℕ} → n < 2 ^ 64 → 10 ≤ n → d ≡ digit_of n → Wrote (decimal (n / 10)) l at k m → Wrote (decimal n) l at (k + 1) (set m k d)
+wrote-last {n} {d} {at} {k} {l} {m} fits h e w = rw (more-digits n fits h, e) (and_then w (wrote-one m k (digit_of n)))
 
 -- some bytes copied over a part
 pub pasted : (bytes l m : List ℕ) (at : ℕ) → at + length bytes ≤ length l → m ≡ bytes → Wrote bytes l at (at + length bytes) (put_mid at (at + length bytes - at) l m)
@@ -72,7 +80,7 @@ unfolding end_line_of
 counters-put b e p = rw (← e) p
 
 -- what arithmetic needs of numbers
-pub ruleset decimals = (then, one-digit, more-digits, more_length)
+pub ruleset decimals = (wrote-one, wrote-last, one-digit, more-digits, more_length)
 
 pub ruleset signs = (then, word_short, negative_short)
 

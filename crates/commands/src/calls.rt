@@ -56,17 +56,15 @@ fn replace_glyphs(
     )
 }
 
-// Strings are mostly made of 01 and 07: each has a function of its own, and the others stand in groups. One function of all calls
-// keeps the state in memory for each of them: a command costs a tenth more then.
+// Strings are mostly made of 01 and 07: each has a function of its own, and the others stand in groups. None is kept out of line: the state
+// then goes in and out through memory, and a command costs twice as much. One match of all 39 costs twice as much where LLVM keeps it in memory.
 #[tactic(auto, using(crate::proofs::CallLaws::operand_laws), unfolding(crate::specs::Calls::perform))]
-#[inline(never)]
 fn push(b: Buffer, first: &mut [u32], second: &mut [u32], number: u32, cluster: u32) -> Reply
     ensures { Meets (λ capacity a. perform 0 capacity (c01-push cluster) (number ∷ []) a) b first.old second.old result first.new second.new }
 {
     edits::filling::push(b, first, second, number, cluster)
 }
 
-#[inline(never)]
 fn next_glyph(b: Buffer, first: &mut [u32], second: &mut [u32]) -> Reply
     ensures { Meets (λ capacity a. perform 0 capacity c07-next-glyph [] a) b first.old second.old result first.new second.new }
 {
@@ -74,7 +72,6 @@ fn next_glyph(b: Buffer, first: &mut [u32], second: &mut [u32]) -> Reply
 }
 
 // 00, and 02 to 06.
-#[inline(never)]
 fn prepare(b: Buffer, first: &mut [u32], second: &mut [u32], o: Order) -> Reply
     requires { (o.byte < 7) × (o.byte ≡ 1 → ⊥) }
     ensures { Makes o b first.old second.old result first.new second.new }
@@ -90,7 +87,6 @@ fn prepare(b: Buffer, first: &mut [u32], second: &mut [u32], o: Order) -> Reply
 }
 
 // 08 to 10.
-#[inline(never)]
 fn write(b: Buffer, first: &mut [u32], second: &mut [u32], script: &[u8], o: Order) -> Reply
     requires { (8 ≤ o.byte) × (o.byte < 17) × (o.byte ≡ 14 → o.numbers + 4 * o.b ≤ length script.now) }
     ensures { Meets (λ capacity a. perform 0 capacity (worded_of script.now o).call (worded_of script.now o).glyphs a) b first.old second.old result first.new second.new }
@@ -109,7 +105,6 @@ fn write(b: Buffer, first: &mut [u32], second: &mut [u32], script: &[u8], o: Ord
 }
 
 // 11 to 14.
-#[inline(never)]
 fn merge(b: Buffer, first: &mut [u32], second: &mut [u32], o: Order) -> Reply
     requires { (17 ≤ o.byte) × (o.byte < 21) }
     ensures { Makes o b first.old second.old result first.new second.new }
@@ -125,7 +120,6 @@ fn merge(b: Buffer, first: &mut [u32], second: &mut [u32], o: Order) -> Reply
 }
 
 // 15 to 19, between bounds.
-#[inline(never)]
 fn flag(b: Buffer, first: &mut [u32], second: &mut [u32], o: Order) -> Reply
     requires { (21 ≤ o.byte) × (o.byte < 26) }
     ensures { Makes o b first.old second.old result first.new second.new }
@@ -143,7 +137,6 @@ fn flag(b: Buffer, first: &mut [u32], second: &mut [u32], o: Order) -> Reply
 }
 
 // 1A to 26, the last command byte.
-#[inline(never)]
 fn arrange(b: Buffer, first: &mut [u32], second: &mut [u32], o: Order) -> Reply
     requires { (26 ≤ o.byte) × (o.byte < 39) }
     ensures { Makes o b first.old second.old result first.new second.new }

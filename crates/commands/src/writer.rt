@@ -1,7 +1,7 @@
 // A place in a lent slice, from which on bytes, numbers and words are written. Not by `fmt`: each byte is proved against specs/Lines,
 // and so is a bound on the length, in a slice that is lent, with no heap; std's decimal is another definition.
 ghost use Rattle.std.specs.Prelude.{◌≡◌, cond, [], ◌∷◌, ◌+◌, ◌≤◌, ◌<◌, length};
-ghost use Rattle.commands.specs.{Lines.digit_of, Lines.decimal, Lines.signed, Lines.hex_digit, Lines.hex, inner.Writes.Puts};
+ghost use Rattle.commands.specs.{Lines.digit_of, Lines.decimal, Lines.signed, Lines.hex_digit, Lines.hex, inner.Writes.Puts, Texts.Wrote};
 
 #[derive(Drop)]
 pub(crate) struct Writer<'a> {
@@ -22,6 +22,21 @@ fn hex_digit(n: u8) -> u8
     ensures { result ≡ hex_digit n }
 {
     if n < 10 { b'0' + n } else { b'A' + (n - 10) }
+}
+
+// The digits of n from a place on, and the place behind them. Not a method: a writer that is lent has its fields in memory.
+#[tactic(auto, using(crate::proofs::Writes::decimals))]
+fn decimals(out: &mut [u8], at: usize, n: usize) -> usize
+    requires { at + length (decimal n) ≤ length out.old }
+    ensures { Wrote (decimal n) out.old at result out.new }
+{
+    if n < 10 {
+        out[at] = digit(n);
+        return at + 1;
+    }
+    let last = decimals(out, at, n / 10);
+    out[last] = digit(n);
+    last + 1
 }
 
 impl<'a> Writer<'a> {
@@ -53,16 +68,12 @@ impl<'a> Writer<'a> {
     }
 
     // As specs/Lines defines it.
-    #[tactic(auto, using(crate::proofs::Writes::decimals))]
+    #[tactic(auto, using(crate::proofs::Writes::then))]
     fn put_decimal(&mut self, n: usize)
         requires { self.old.at + length (decimal n) ≤ length self.old.out.now }
         ensures { Puts (decimal n) self.old self.new }
     {
-        if n < 10 {
-            return self.put(digit(n));
-        }
-        self.put_decimal(n / 10);
-        self.put(digit(n));
+        self.at = decimals(self.out, self.at, n);
     }
 
     // A word that stands for a signed number, as specs/Lines defines it. By `unsigned_abs`, or `wrapping_neg`, the check leaves the first goal open.

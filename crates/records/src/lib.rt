@@ -61,16 +61,17 @@ pub struct Key {
     pub mask: u32,
 }
 
-// The counters that no list shows. max_ops is signed, and held as its word.
+// The counters that no list shows. max_ops is signed, and held as its word. The fields stand so that each gap between and behind them is one
+// of 2 or 4 bytes: LLVM copies one of 6 through memory wherever a state is copied.
 #[derive(Clone, Copy)]
 pub struct Limits {
     pub allocated: usize,
     pub max_len: usize,
     pub max_ops: u32,
-    // Pushes that stored a glyph since fresh; the count stops at the largest word.
-    pub pushes: u32,
     pub serial: u8,
     pub successful: bool,
+    // Pushes that stored a glyph since fresh; the count stops at the largest word.
+    pub pushes: u32,
 }
 
 // Why a call is turned back, by the numbers of specs/Answers.antt.
