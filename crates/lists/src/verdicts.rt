@@ -1,6 +1,6 @@
 // What a call comes to, before a word is written, and the reply that is made of it.
 ghost use Rattle.std.specs.Prelude.{◌≡◌, false, None, Ok, ◌+◌, ◌<◌, ◌^◌};
-ghost use Rattle.lists.specs.inner.States.{at_places};
+ghost use Rattle.lists.specs.inner.States.{at_places, reply};
 ghost use Rattle.lists.specs.inner.Verdicts.{Leaves, failed_buffer, Sized, lies_elsewhere, acts_of, apart_of, settled_buffer, settled, settled_as, synced};
 
 use super::{Buffer, Decision, Reply, Verdict, state};
@@ -96,13 +96,21 @@ fn after(b: Buffer, v: Verdict) -> Buffer
     }
 }
 
+// The reply of a verdict's places and limits with any answer, a refusal as well. A refusal of ours changes nothing: `settled`.
+#[inline(always)]
+pub fn settled_with(b: Buffer, v: Verdict, answer: Answer) -> Reply
+    ensures { result ≡ reply (settled_buffer b v) answer }
+{
+    state::reply(after(b, v), answer)
+}
+
 // The reply of a verdict.
 #[tactic(auto, unfolding(crate::specs::inner::Verdicts::settled))]
 #[inline(always)]
 pub(crate) fn replied(b: Buffer, v: Verdict) -> Reply
     ensures { result ≡ settled b (Ok v) }
 {
-    state::reply(after(b, v), Ok(v.value))
+    settled_with(b, v, Ok(v.value))
 }
 
 // The reply, from the state before the call and what it came to.
