@@ -1,9 +1,17 @@
--- Calls by their numbers: what calls with operands made of words need, and the last arm of the dispatch.
-use mathlib.Core.{Path.◌≡◌}
+-- Calls by their numbers: open bounds, what calls with operands made of words need, and the last arm of the dispatch.
+use mathlib.Core.{Path.◌≡◌, Path.sym, Path.ap, Bool.Bool, Bool.cond}
 use Prim.Native.Nat.{ℕ, zero, suc, ◌+◌, ◌≤◌, ◌<◌}
 use native.Mathlib.Omega.{arith}
+use borrow.Author.Tests.{eq-eqb}
+use Rattle.std.specs.Prelude.{None, Some}
 use Rattle.records.proofs.{View.seen-number, View.seen-info, ByteLaws.words-of-part}
 use Rattle.edits.proofs.Writings.{info-origin}
+use Rattle.commands.specs.Calls.{bound, input_place}
+
+-- ---- bounds: the highest word is an open one
+pub input-open : (n : ℕ) → n ≡ 4294967295 → None ≡ bound (λ k. input_place k) n
+unfolding bound
+input-open n h = sym (ap (λ (highest : Bool). cond highest None (Some (input_place n))) (eq-eqb n 4294967295 h))
 
 -- 0C by its operands, 0E by the bytes of its numbers
 pub ruleset operand_laws = (seen-number, seen-info, info-origin, words-of-part)

@@ -2,7 +2,7 @@
 use mathlib.Core.{Path.◌≡◌, Path.refl, Path.sym, Path.ap, Path.◌∙◌, List.List, List.[], List.◌∷◌, List.◌++◌, List.map}
 use Prim.Native.Nat.{ℕ}
 use native.Mathlib.Omega.{arith}
-use borrow.Author.Tests.{eq-eqb, ne_eqb}
+use borrow.Author.Tests.{eq-eqb}
 use Rattle.std.specs.Prelude.{Option, None, Some}
 use lib.ListN.{length}
 use Rattle.records.specs.{Position, Glyphs.Glyph}
@@ -11,23 +11,12 @@ use Rattle.commands.specs.Lines.{lines_above}
 use Rattle.commands.specs.{Totals.no_totals, Totals.plus, Totals.starts, Totals.counted, Totals.counted_below, Totals.read_totals, inner.Counts.groups_below, inner.Counts.groups_of, inner.Counts.marked_of, inner.Counts.list_totals, inner.Counts.totals, inner.Counts.Printable, inner.Counts.AllPrintable}
 use Rattle.commands.specs.declared.Entry.{Entry}
 use Rattle.commands.proofs.FieldLaws.{number_decimal}
-use Rattle.commands.proofs.TotalLaws.{taken, entries, lines-read, same-totals, none-plus, plus_none}
+use Rattle.commands.proofs.TotalLaws.{taken, entries, lines-read, same-totals, none-plus, plus_none, Apart, other-kind}
 
 -- what is read of the line above what comes next
 last_entry : Option Entry → List (Option Entry) → Option Entry
 last_entry above [] = above
 last_entry above (e ∷ es) = last_entry e es
-
--- a line that is of no list of this kind
-abbrev Apart : ℕ → Option Entry → Type 0
-Apart kind None = Unit {0}
-Apart kind (Some e) = e.kind ≡ kind → ⊥
-
--- below it a line of this kind starts a group
-starts-apart : (above : Option Entry) (line : Entry) → Apart line.kind above → starts above line ≡ 1
-unfolding starts
-starts-apart None line h = refl
-starts-apart (Some e) line h = rw (ne_eqb e.kind line.kind h) refl
 
 -- ---- the lines of one list
 module _ (kind : ℕ) where
@@ -58,7 +47,7 @@ module _ (kind : ℕ) where
     count-list : (l : List (Glyph ℕ)) (above : Option Entry) → Apart kind above → counted_below above (map entry_of l ++ es) ≡ plus (list_totals l) (counted_below (last_entry above (map entry_of l)) es)
     unfolding counted_below counted groups_of marked_of list_totals last_entry entry_of plus
     count-list [] above h = sym (none-plus (counted_below above es))
-    count-list (g ∷ l) above h = rw (starts-apart above (record { kind = kind; cluster = g.info.cluster; mask = g.info.mask }) h, count-on l g) (same-totals (omega arith) (omega arith) (omega arith))
+    count-list (g ∷ l) above h = rw (← other-kind above (record { kind = kind; cluster = g.info.cluster; mask = g.info.mask }) h, count-on l g) (same-totals (omega arith) (omega arith) (omega arith))
 
 -- positions
 count-positions : (ps : List Position) (above : Option Entry) → counted_below above (map (λ q. None) ps) ≡ no_totals

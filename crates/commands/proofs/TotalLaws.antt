@@ -1,8 +1,9 @@
 -- The line `sum`: what a reader takes from each line, what the lines come to, and that no glyph number counts.
 use mathlib.Core.{Path.◌≡◌, Path.refl, Path.sym, Path.ap, Path.ap₂, Path.◌∙◌, Bool.Bool, Bool.true, Bool.false, Bool.cond, Bool.◌&&◌, List.List, List.[], List.◌∷◌, List.◌++◌, List.map, List.append-nil}
-use Prim.Native.Nat.{ℕ, ◌+◌, ◌*◌, ◌≤◌, ◌<◌, ◌^◌}
+use Prim.Native.Nat.{ℕ, ◌+◌, ◌*◌, ◌%◌, ◌≤◌, ◌<◌, ◌^◌}
 use native.Mathlib.Omega.{arith}
 use native.Mathlib.Numerals.{add-one}
+use borrow.Author.Tests.{ne_eqb}
 use Rattle.std.specs.Prelude.{Option, None, Some, MatchOption, slice_get}
 use Rattle.std.proofs.lemmas.Option.{slice_get-get_or}
 use lib.{Dec.eqb, ListN.length, ListN.get_or, ListN.drop, ListN.drop_of_length-le, Seq.drop-cons}
@@ -17,7 +18,7 @@ use Rattle.commands.specs.Lines.{decimal, glyph_line, position_line, counters_li
 use Rattle.commands.specs.Totals.{is_glyph_kind, read_line, no_totals, plus, starts, counted, counted_below, read_totals}
 use Rattle.commands.specs.{declared.Entry.Entry, declared.Totals.Totals}
 use Rattle.commands.proofs.LineLaws.{glyph-line}
-use Rattle.commands.proofs.FieldLaws.{plain-decimal, fields-line}
+use Rattle.commands.proofs.FieldLaws.{number_decimal, plain-decimal, fields-line}
 
 -- ---- lines read
 -- what is read of a glyph: nothing of its number
@@ -61,6 +62,10 @@ module _ {item : Item} where
   entry-placed {q} i = rw i (sym (read-position q))
 
 pub ruleset entered = (entry_done, entry-passed, entry-rest, entry-placed)
+
+-- a word that is printed is the word that is read
+pub entry_of : (kind : ℕ) {cluster mask : ℕ} → cluster < 2 ^ 32 → mask < 2 ^ 32 → ◌≡◌ {A = Entry} (record { kind = kind; cluster = cluster; mask = mask }) (record { kind = kind; cluster = number_of (decimal cluster); mask = number_of (decimal mask) })
+entry_of kind {cluster} {mask} c m = rw (number_decimal cluster (omega (arith, c)), number_decimal mask (omega (arith, m))) refl
 
 -- ---- the lines of an account
 module _ {G : Type 0} where
@@ -115,6 +120,22 @@ unfolding read_totals counted_below counted
 below_end a ls = rw (read-end a) (none-plus (counted_below None (map read_line ls)))
 
 -- ---- one line after the other
+-- a line that is of no list of this kind
+abbrev pub Apart : ℕ → Option Entry → Type 0
+Apart kind None = Unit {0}
+Apart kind (Some e) = e.kind ≡ kind → ⊥
+
+-- below it a line of this kind starts a group
+pub other-kind : (above : Option Entry) (line : Entry) → Apart line.kind above → 1 ≡ starts above line
+unfolding starts
+other-kind None line h = refl
+other-kind (Some above) line h = sym (ap (λ (same : Bool). cond (same && eqb above.cluster line.cluster) 0 1) (ne_eqb above.kind line.kind h))
+
+-- a glyph's line is counted, with the group that it starts
+pub count-one : (above : Option Entry) (line : Entry) (t : Totals) {n : ℕ} → n ≡ starts above line → ◌≡◌ {A = Totals} (record { lines = t.lines + 1; groups = t.groups + n; marked = t.marked + line.mask % 2 }) (plus t (counted above (Some line)))
+unfolding counted plus
+count-one above line t e = rw e refl
+
 pub starts_most : (above : Option Entry) (line : Entry) → starts above line ≤ 1
 unfolding starts
 starts_most None line = omega arith

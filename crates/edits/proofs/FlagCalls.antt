@@ -1,7 +1,7 @@
 -- The plain flag forms: from what the slice workers leave to the account, and the calls.
 use Rattle.lists.proofs.Decisions.{turned}
 use Rattle.lists.specs.inner.States.{Decision}
-use Rattle.lists.specs.inner.Verdicts.{acts_of, Turned, leaving, settled, Decided}
+use Rattle.lists.specs.inner.Verdicts.{acts_of, Turned, leaving, settled, Sided, Decided}
 use Rattle.std.specs.Prelude.{None, Err}
 use mathlib.Core.{Path.◌≡◌, Path.refl, Path.sym, Path.ap, Path.◌∙◌, Path.subst, Bool.Bool, Bool.true, Bool.false, Bool.cond, Bool.not, Bool.◌&&◌, Bool.◌||◌, Bool.false≢true, List.List}
 use Rattle.std.specs.Prelude.{Option}
@@ -20,6 +20,7 @@ use Rattle.records.proofs.Edited.{edit-drop-behind}
 use Rattle.edits.specs.{inner.Acts.Acts, inner.Acts.Mergeful, inner.BoundNumbers.input_number, Flags.interior, Flags.search_level, Flags.sought, Flags.flag_interior, Flags.flag_all, Flags.place_number, Flags.too_far, Flags.start_of, Flags.end_of, Flags.plain_form, Flags.wants_concat, Flags.wants_tatweel, inner.Holding.holds, inner.Marks.flagged_run, inner.Marks.Flaggable, inner.Marks.Flagged, inner.Marks.flag_verdict, inner.Marks.FlagVerdict, inner.Marks.PlainMeets}
 use Rattle.edits.proofs.MergeForms.{InputRange, InputFrom}
 use Rattle.edits.proofs.BoundLaws.{end-most}
+use Rattle.edits.proofs.MarkLaws.{sided-as}
 use Rattle.edits.proofs.FlagLaws.{flagged-all, flagged-all-within}
 use Rattle.edits.proofs.Places.{paired-flagged-all}
 use Rattle.edits.proofs.MergeCalls.{own-apart, own-within, acts-free, from-gone, range-apart, range-within, out-low, width, flag_is, flag-behind, neither_left, neither_right, in-acts}
@@ -97,8 +98,8 @@ module _ (interiorly wanted : Bool) (bits : ℕ) (s e : Option InputPlace) (a : 
       plain-in-flags o = simp (h, k, ← ei, ← ej, ← eg, o, refusing)
 
 -- ---- what the code tested, as the account says it
-pub idle-of : (b : Buffer) (run other : List ℕ) (interiorly x : Bool) {idle : Bool} → idle ≡ (not (interiorly || wants_concat b.wants) || x) → (not (interiorly || wants_concat (account_of b run other).state.wants) || x) ≡ idle
-idle-of b run other interiorly x ei = rw (wants-of b run other) (sym ei)
+pub idle-of : (b : Buffer) (run other : List ℕ) (always x : Bool) {idle : Bool} → idle ≡ (not (always || wants_concat b.wants) || x) → (not (always || wants_concat (account_of b run other).state.wants) || x) ≡ idle
+idle-of b run other always x ei = rw (wants-of b run other) (sym ei)
 
 pub end-of : {b : Buffer} {run other : List ℕ} {j : ℕ} (end : Option InputPlace) → Held b run other → spoiled_phase b.phase ≡ false → j ≡ end_of (input_number end) b.len.0 → j ≡ end_of (input_number end) (len (account_of b run other))
 end-of {b} {run} {other} end v p ee = ee ∙ ap (end_of (input_number end)) (sym (len_of b run other v p))
@@ -154,51 +155,51 @@ module _ {b : Buffer} {f s : List ℕ} {wrong idle out : Bool} {v : Decision} wh
       by true false false true h k n o e = outside h k n o (record { is = e })
       by true false false false h k n o e = ahead h k n o (record { is = e })
 
--- ---- what the calls come to, by their tests: whatever the form marks with; only a concat form may be unwanted
-pub record FlagsInput (interiorly : Bool) (start end : Option InputPlace) (b : Buffer) (f s : List ℕ) (d : Decision) : Type 0 where
-  pub is : (bits : ℕ → ℕ) {i j : ℕ} → i ≡ start_of (input_number start) → j ≡ end_of (input_number end) b.len.0
-      → Decided (λ capacity a. plain_form interiorly (interiorly || wants_concat a.state.wants) (bits a.state.wants) start end a) b f s (settled b d) (acts_of d)
+-- ---- what the calls come to, by their tests: whatever a form marks with, wanted always or as wants says
+pub record FlagsInput (always : Bool) (start end : Option InputPlace) (b : Buffer) (f s : List ℕ) (d : Decision) : Type 0 where
+  pub is : (interiorly : Bool) (bits : ℕ → ℕ) {i j : ℕ} → i ≡ start_of (input_number start) → j ≡ end_of (input_number end) b.len.0
+      → Decided (λ capacity a. plain_form interiorly (always || wants_concat a.state.wants) (bits a.state.wants) start end a) b f s (settled b d) (acts_of d)
       (Flaggable i j f s) (Flagged interiorly (search_level (read_level b.level) b.wants) (bits b.wants) i j)
 
-module _ {interiorly : Bool} {start end : Option InputPlace} {b : Buffer} {f s : List ℕ} {v : Decision} where
-  plain-unsound : sound b f s ≡ false → Turned Contradiction v → FlagsInput interiorly start end b f s v
-  plain-unsound h w = record { is = λ bits es' ee'. decided-unsound h w }
+module _ {always : Bool} {start end : Option InputPlace} {b : Buffer} {f s : List ℕ} {v : Decision} where
+  plain-unsound : sound b f s ≡ false → Turned Contradiction v → FlagsInput always start end b f s v
+  plain-unsound h w = record { is = λ interiorly bits es' ee'. decided-unsound h w }
 
   module _ (h : sound b f s ≡ true) where
-    plain-spoiled : spoiled_phase b.phase ≡ true → Turned WrongPhase v → FlagsInput interiorly start end b f s v
-    plain-spoiled k w = record { is = λ bits es' ee'. decided-refused h (record { law = λ run other l. plain-in-spoiled interiorly _ _ start end _ (spoiled-of b run other ∙ k) }) w }
+    plain-spoiled : spoiled_phase b.phase ≡ true → Turned WrongPhase v → FlagsInput always start end b f s v
+    plain-spoiled k w = record { is = λ interiorly bits es' ee'. decided-refused h (record { law = λ run other l. plain-in-spoiled interiorly _ _ start end _ (spoiled-of b run other ∙ k) }) w }
 
-    module _ {idle : Bool} (p : spoiled_phase b.phase ≡ false) (ei : idle ≡ (not (interiorly || wants_concat b.wants) || too_far (input_number start) (input_number end))) where
-      plain-idle : idle ≡ true → Leaves b false None v → FlagsInput interiorly start end b f s v
+    module _ {idle : Bool} (p : spoiled_phase b.phase ≡ false) (ei : idle ≡ (not (always || wants_concat b.wants) || too_far (input_number start) (input_number end))) where
+      plain-idle : idle ≡ true → Leaves b false None v → FlagsInput always start end b f s v
       plain-idle k w = record {
-        is = λ bits es' ee'. decided-accepted h (accepts None (near_same b) (λ run other l.
-            (plain-in-idle interiorly _ _ start end _ (spoiled-of b run other ∙ p) (idle-of b run other interiorly _ ei ∙ k), l.held))) w;
+        is = λ interiorly bits es' ee'. decided-accepted h (accepts None (near_same b) (λ run other l.
+            (plain-in-idle interiorly _ _ start end _ (spoiled-of b run other ∙ p) (idle-of b run other always _ ei ∙ k), l.held))) w;
       }
 
       module _ {i j : ℕ} {out : Bool} (n : idle ≡ false) (es : i ≡ start_of (input_number start)) (ee : j ≡ end_of (input_number end) b.len.0) (eo : out ≡ (ltb j i || ltb i (gone_of b))) where
-        plain-outside : out ≡ true → Turned OutOfRange v → FlagsInput interiorly start end b f s v
+        plain-outside : out ≡ true → Turned OutOfRange v → FlagsInput always start end b f s v
         plain-outside y w = record {
-          is = λ bits es' ee'. decided-refused h (record {
+          is = λ interiorly bits es' ee'. decided-refused h (record {
             law = λ run other l.
-                plain-in-outside interiorly _ _ start end _ (spoiled-of b run other ∙ p) (idle-of b run other interiorly _ ei ∙ n) es (end-of end l.held p ee) (sym (gone-of b run other)) (sym eo ∙ y);
+                plain-in-outside interiorly _ _ start end _ (spoiled-of b run other ∙ p) (idle-of b run other always _ ei ∙ n) es (end-of end l.held p ee) (sym (gone-of b run other)) (sym eo ∙ y);
           }) w;
         }
 
-        plain-ahead : out ≡ false → Leaves b true None v → FlagsInput interiorly start end b f s v
+        plain-ahead : out ≡ false → Leaves b true None v → FlagsInput always start end b f s v
         plain-ahead y w = record {
-          is = λ bits es' ee'. rw (es' ∙ sym es, ee' ∙ sym ee) (decided-does h (record {
+          is = λ interiorly bits es' ee'. rw (es' ∙ sym es, ee' ∙ sym ee) (decided-does h (record {
             near = near_same b;
             none = λ c. absurd (false≢true (sym c));
             law = λ run other run' other' l lr lo act.
                 rw act.other-is (in-acts (plain-acts (mergeful end l.held p ee (sym eo ∙ y)) (bits b.wants) run' interiorly lr act.run_is)
-                (plain-in-flags interiorly _ _ start end _ (spoiled-of b run other ∙ p) (idle-of b run other interiorly _ ei ∙ n) es (end-of end l.held p ee) (sym (gone-of b run other)) (sym eo ∙ y)
+                (plain-in-flags interiorly _ _ start end _ (spoiled-of b run other ∙ p) (idle-of b run other always _ ei ∙ n) es (end-of end l.held p ee) (sym (gone-of b run other)) (sym eo ∙ y)
                 ∙ ap (λ (x : ℕ). accepted (flag_plain interiorly (bits x) (i - gone_of b) (j - gone_of b) (account_of b run other))) (wants-of b run other)) refl);
           }) (λ c. flags-range (mergeful end (sound-held b f s h) p ee (sym eo ∙ y))) w);
         }
 
-module _ {interiorly : Bool} {start end : Option InputPlace} {b : Buffer} {f s : List ℕ} {v : Decision} where
-  pub flags-input : {wrong idle out : Bool} {i j : ℕ} → wrong ≡ spoiled_phase b.phase → idle ≡ (not (interiorly || wants_concat b.wants) || too_far (input_number start) (input_number end)) → i ≡ start_of (input_number start) → j ≡ end_of (input_number end) b.len.0
-      → out ≡ (ltb j i || ltb i (gone_of b)) → FlagVerdict b f s wrong idle out v → FlagsInput interiorly start end b f s v
+module _ {always : Bool} {start end : Option InputPlace} {b : Buffer} {f s : List ℕ} {v : Decision} where
+  pub flags-input : {wrong idle out : Bool} {i j : ℕ} → wrong ≡ spoiled_phase b.phase → idle ≡ (not (always || wants_concat b.wants) || too_far (input_number start) (input_number end)) → i ≡ start_of (input_number start) → j ≡ end_of (input_number end) b.len.0
+      → out ≡ (ltb j i || ltb i (gone_of b)) → FlagVerdict b f s wrong idle out v → FlagsInput always start end b f s v
   flags-input ew ei es ee eo w =
       by-tests w plain-unsound (λ h k. plain-spoiled h (sym ew ∙ k)) (λ h k. plain-idle h (sym ew ∙ k) ei) (λ h k n. plain-outside h (sym ew ∙ k) ei n es ee eo) (λ h k n. plain-ahead h (sym ew ∙ k) ei n es ee eo)
 
@@ -211,6 +212,15 @@ plain_meets {bits = bits} w = w.is (λ n. bits) refl
 pub tatweel_meets : {bits : ℕ} {start end : Option InputPlace} {b : Buffer} {f s : List ℕ} {r : Reply} {f' s' : List ℕ} → PlainMeets true bits start end b f s r f' s' → bits ≡ cond (wants_tatweel b.wants) 4 3
     → Meets (λ capacity a. plain_form true true (cond (wants_tatweel a.state.wants) 4 3) start end a) b f s r f' s'
 tatweel_meets w e = w.is (λ n. cond (wants_tatweel n) 4 3) e
+
+-- an act, by the numbers that the code has for its bits and places
+pub flagged-at : {y interiorly : Bool} {level level' x x' i i' j j' : ℕ} {f s f' s' : List ℕ} → Sided y (Flagged interiorly level x i j) f s f' s' → level ≡ level' → x ≡ x' → i ≡ i' → j ≡ j' → Sided y (Flagged interiorly level' x' i' j') f s f' s'
+flagged-at w el ex ei ej = rw (← el, ← ex, ← ei, ← ej) w
+
+-- every glyph is marked alike at all levels
+pub all-at : {y : Bool} {level level' x i i' j j' : ℕ} {f s f' s' : List ℕ} → Sided y (Flagged false level x i j) f s f' s' → i ≡ i' → j ≡ j' → Sided y (Flagged false level' x i' j') f s f' s'
+unfolding flagged_run
+all-at w ei ej = rw (← ei, ← ej) (sided-as (λ run other run' other' d. record { run_is = d.run_is; other-is = d.other-is }) w)
 
 -- for the proofs of functions
 pub ruleset flag_verdicts = (turned, soundness, tested, flag-unsound, flag-wrong, flag-idle, flag-outside, flag-ahead)

@@ -50,6 +50,9 @@ pub table_long : (table : List ℕ) → table ≡ flag_table → length table �
 unfolding EveryEntry
 table_long table same = rw same every-entry.0
 
+pub entry_in : {table : List ℕ} → table ≡ flag_table → {place : ℕ} → place < 32 → place < length table
+entry_in {table} same h = rw (table_long table same) h
+
 pub entry_is : {table : List ℕ} → table ≡ flag_table → (wants : ℕ) {joined : ℕ} → joined < 8 → get_or table (8 * (wants % 4) + joined) 0 ≡ settled_mask wants joined
 unfolding EveryEntry
 entry_is same wants {joined} low = ap (λ (l : List ℕ). get_or l (8 * (wants % 4) + joined) 0) same ∙ every-entry.1 wants joined low

@@ -117,43 +117,43 @@ module _ (interiorly wanted : Bool) (bits : ℕ) (s : Option DonePlace) (e : Opt
       out-in-flags o = simp (h, k, ← ei, ← ej, ← ex, ← en, o, refusing)
 
 -- ---- what the calls come to, by their tests
-pub record FlagsOut (interiorly : Bool) (start : Option DonePlace) (end : Option InputPlace) (b : Buffer) (f s : List ℕ) (d : Decision) : Type 0 where
-  pub is : (bits : ℕ → ℕ) {i j : ℕ} → i ≡ start_of (done_number start) → j ≡ end_of (input_number end) b.len.0
-      → Decided (λ capacity a. outbuffer_form interiorly (interiorly || wants_concat a.state.wants) (bits a.state.wants) start end a) b f s (settled b d) (acts_of d)
+pub record FlagsOut (always : Bool) (start : Option DonePlace) (end : Option InputPlace) (b : Buffer) (f s : List ℕ) (d : Decision) : Type 0 where
+  pub is : (interiorly : Bool) (bits : ℕ → ℕ) {i j : ℕ} → i ≡ start_of (done_number start) → j ≡ end_of (input_number end) b.len.0
+      → Decided (λ capacity a. outbuffer_form interiorly (always || wants_concat a.state.wants) (bits a.state.wants) start end a) b f s (settled b d) (acts_of d)
       (OutFlaggable (lists_of b) i j f s) (OutFlagged interiorly (search_level (read_level b.level) b.wants) (bits b.wants) (lists_of b) i j)
 
-module _ {interiorly : Bool} {start : Option DonePlace} {end : Option InputPlace} {b : Buffer} {f s : List ℕ} {v : Decision} where
-  out-unsound : sound b f s ≡ false → Turned Contradiction v → FlagsOut interiorly start end b f s v
-  out-unsound h w = record { is = λ bits es' ee'. decided-unsound h w }
+module _ {always : Bool} {start : Option DonePlace} {end : Option InputPlace} {b : Buffer} {f s : List ℕ} {v : Decision} where
+  out-unsound : sound b f s ≡ false → Turned Contradiction v → FlagsOut always start end b f s v
+  out-unsound h w = record { is = λ interiorly bits es' ee'. decided-unsound h w }
 
   module _ (h : sound b f s ≡ true) where
-    out_none : output_phase b.phase ≡ false → Turned WrongPhase v → FlagsOut interiorly start end b f s v
-    out_none k w = record { is = λ bits es' ee'. decided-refused h (record { law = λ run other l. out-in-none interiorly _ _ start end _ (output-of b run other ∙ k) }) w }
+    out_none : output_phase b.phase ≡ false → Turned WrongPhase v → FlagsOut always start end b f s v
+    out_none k w = record { is = λ interiorly bits es' ee'. decided-refused h (record { law = λ run other l. out-in-none interiorly _ _ start end _ (output-of b run other ∙ k) }) w }
 
-    module _ {idle : Bool} (p : output_phase b.phase ≡ true) (ei : idle ≡ (not (interiorly || wants_concat b.wants) || too_far (done_number start) (input_number end))) where
-      out-idle : idle ≡ true → Leaves b false None v → FlagsOut interiorly start end b f s v
+    module _ {idle : Bool} (p : output_phase b.phase ≡ true) (ei : idle ≡ (not (always || wants_concat b.wants) || too_far (done_number start) (input_number end))) where
+      out-idle : idle ≡ true → Leaves b false None v → FlagsOut always start end b f s v
       out-idle k w = record {
-        is = λ bits es' ee'. decided-accepted h (accepts None (near_same b) (λ run other l.
-            (out-in-idle interiorly _ _ start end _ (output-of b run other ∙ p) (idle-of b run other interiorly _ ei ∙ k), l.held))) w;
+        is = λ interiorly bits es' ee'. decided-accepted h (accepts None (near_same b) (λ run other l.
+            (out-in-idle interiorly _ _ start end _ (output-of b run other ∙ p) (idle-of b run other always _ ei ∙ k), l.held))) w;
       }
 
       module _ {i j : ℕ} {out : Bool} (n : idle ≡ false) (es : i ≡ start_of (done_number start)) (ee : j ≡ end_of (input_number end) b.len.0) (eo : out ≡ (ltb b.out_len.0 i || ltb j b.idx.0)) where
-        out-outside : out ≡ true → Turned OutOfRange v → FlagsOut interiorly start end b f s v
+        out-outside : out ≡ true → Turned OutOfRange v → FlagsOut always start end b f s v
         out-outside y w = record {
-          is = λ bits es' ee'. decided-refused h (record {
+          is = λ interiorly bits es' ee'. decided-refused h (record {
             law = λ run other l.
-                out-in-outside interiorly _ _ start end _ (output-of b run other ∙ p) (idle-of b run other interiorly _ ei ∙ n) es (end-of end l.held (output-clean b.phase p) ee) (sym (idx-of b run other l.held (output-clean b.phase p))) (sym (out_of b run other l.held)) (sym eo ∙ y);
+                out-in-outside interiorly _ _ start end _ (output-of b run other ∙ p) (idle-of b run other always _ ei ∙ n) es (end-of end l.held (output-clean b.phase p) ee) (sym (idx-of b run other l.held (output-clean b.phase p))) (sym (out_of b run other l.held)) (sym eo ∙ y);
           }) w;
         }
 
-        out-ahead : out ≡ false → Leaves b true None v → FlagsOut interiorly start end b f s v
+        out-ahead : out ≡ false → Leaves b true None v → FlagsOut always start end b f s v
         out-ahead y w = record {
-          is = λ bits es' ee'. rw (es' ∙ sym es, ee' ∙ sym ee) (decided-does h (record {
+          is = λ interiorly bits es' ee'. rw (es' ∙ sym es, ee' ∙ sym ee) (decided-does h (record {
             near = near_same b;
             none = λ c. absurd (false≢true (sym c));
             law = λ run other run' other' l lr lo act.
                 in-acts (out-acts (placed end l.held p ee (sym eo ∙ y)) interiorly (bits b.wants) lr lo act)
-                (out-in-flags interiorly _ _ start end _ (output-of b run other ∙ p) (idle-of b run other interiorly _ ei ∙ n) es (end-of end l.held (output-clean b.phase p) ee) (sym (idx-of b run other l.held (output-clean b.phase p))) (sym (out_of b run other l.held)) (sym eo ∙ y)
+                (out-in-flags interiorly _ _ start end _ (output-of b run other ∙ p) (idle-of b run other always _ ei ∙ n) es (end-of end l.held (output-clean b.phase p) ee) (sym (idx-of b run other l.held (output-clean b.phase p))) (sym (out_of b run other l.held)) (sym eo ∙ y)
                 ∙ ap (λ (x : ℕ). accepted (flag_out interiorly (bits x) i (j - b.idx.0) (account_of b run other))) (wants-of b run other)) refl;
           }) (λ c. out-flaggable (placed end (sound-held b f s h) p ee (sym eo ∙ y))) w);
         }
@@ -162,9 +162,9 @@ none_of : {p : Bool} (x : Bool) {y : Bool} → x ≡ p → not x ≡ y → p ≡
 none_of true eh e = sym eh ∙ ap not e
 none_of false eh e = sym eh ∙ ap not e
 
-module _ {interiorly : Bool} {start : Option DonePlace} {end : Option InputPlace} {b : Buffer} {f s : List ℕ} {v : Decision} where
-  pub flags-out : {has idle out : Bool} {i j : ℕ} → has ≡ output_phase b.phase → idle ≡ (not (interiorly || wants_concat b.wants) || too_far (done_number start) (input_number end)) → i ≡ start_of (done_number start) → j ≡ end_of (input_number end) b.len.0
-      → out ≡ (ltb b.out_len.0 i || ltb j b.idx.0) → FlagVerdict b f s (not has) idle out v → FlagsOut interiorly start end b f s v
+module _ {always : Bool} {start : Option DonePlace} {end : Option InputPlace} {b : Buffer} {f s : List ℕ} {v : Decision} where
+  pub flags-out : {has idle out : Bool} {i j : ℕ} → has ≡ output_phase b.phase → idle ≡ (not (always || wants_concat b.wants) || too_far (done_number start) (input_number end)) → i ≡ start_of (done_number start) → j ≡ end_of (input_number end) b.len.0
+      → out ≡ (ltb b.out_len.0 i || ltb j b.idx.0) → FlagVerdict b f s (not has) idle out v → FlagsOut always start end b f s v
   flags-out {has} eh ei es ee eo w =
       by-tests w out-unsound (λ h k. out_none h (none_of has eh k)) (λ h k. out-idle h (none_of has eh k) ei) (λ h k n. out-outside h (none_of has eh k) ei n es ee eo) (λ h k n. out-ahead h (none_of has eh k) ei n es ee eo)
 

@@ -4,7 +4,7 @@ use Rattle.lists.specs.inner.Verdicts.{acts_of}
 use mathlib.Core.{Path.◌≡◌, Path.refl, Path.ap, Path.ap₂, Path.sym, Path.◌∙◌, Bool.false, List.List, List.[], List.◌∷◌, List.map}
 use Rattle.std.proofs.Common.{ℕ, suc, ◌+◌, ◌-◌, ◌%◌, ◌<◌, ◌≤◌, zero-le, le_refl, arith}
 use lib.{Bits.bit_or, Bits.or_zero_r, ListN.take, ListN.drop, ListN.length, ListN.get_or, ListN.set, Seq.slice, Seq.slice_empty, Seq.slice-cons}
-use Rattle.records.specs.{Phase, Plain, Glyphs.Glyph, Glyphs.Info, Glyphs.change, Glyphs.with_mask, Ranges.infos, Ranges.edit, View.glyphs, inner.Stores.zero_glyph}
+use Rattle.records.specs.{Phase, Plain, Glyphs.Glyph, Glyphs.Info, Glyphs.change, Glyphs.with_mask, Ranges.infos, Ranges.clusters, Ranges.edit, Ranges.heads, Ranges.is, View.glyphs, inner.Stores.zero_glyph}
 use Rattle.records.proofs.View.{glyphs-same}
 use Rattle.lists.specs.{declared.Buffer.Buffer}
 use Rattle.lists.specs.{Account.spoiled_phase, Account.with_rest, inner.Masks.joined_low, Account.accepted, Contract.shown, Contract.account_of, inner.Verdicts.Decided}
@@ -21,7 +21,7 @@ use Rattle.lists.specs.inner.Swapping.{Pair}
 use Rattle.edits.specs.inner.Reversals.{EndsGroup}
 use Rattle.edits.specs.inner.Grouped.{Taken, ActedOnGroup, ActedOnEach}
 use Rattle.edits.proofs.EachGroup.{holds-after}
-use Rattle.edits.proofs.{Holding.slice-take, Places.shown-edit, WholeInputs.whole-acts, MergeCalls.in-acts, WholeInputs.not-not-whole, WholeCalls.OnRun, WholeCalls.takes-decided, GroupLaws.no-group, GroupLaws.clusters-same, GroupLaws.seen-words}
+use Rattle.edits.proofs.{Holding.slice-take, Places.shown-edit, WholeInputs.whole-acts, MergeCalls.in-acts, WholeInputs.not-not-whole, WholeCalls.OnRun, WholeCalls.takes-decided, GroupLaws.no-group, GroupLaws.ends-cluster, GroupLaws.clusters-same, GroupLaws.seen-words}
 
 -- ---- masks
 abbrev pub mask_of : Info → ℕ
@@ -59,6 +59,10 @@ one-filled run run' s e wants ee fits eg =
     let one : edit s (suc s) (with_mask m) l ≡ set l s (change (with_mask m) (get_or l s zero_glyph)) = edit-up (with_mask m) zero_glyph s s l (le_refl s) inside ∙ ap (λ (k : List (Glyph ℕ)). set k s (change (with_mask m) (get_or l s zero_glyph))) (edit-empty (with_mask m) s l) in
     rw next (eg ∙ (sym one ∙ ap (λ (n : ℕ). edit s (suc s) (with_mask (settled_mask wants n)) l) low))
 
+-- what the act on each group asks for
+pub act-fits : (run p : List ℕ) {n e : ℕ} → n ≤ length (glyphs run) → length p ≡ length run → e ≤ n → e ≤ length (glyphs p)
+act-fits run p {n} h lr i = let k : n ≤ length (glyphs p) = rw (glyphs-same p run lr) h in omega (arith, i, k)
+
 -- ---- the loop: groups before s have their masks, those from s on are still to get them
 abbrev seen_run : Phase → ℕ → (run other : List ℕ) → List (Glyph ℕ)
 seen_run p n run other = take n (shown p run other)
@@ -91,8 +95,8 @@ module _ {wants n : ℕ} {run : List ℕ} where
       inside : e ≤ n
       inside = (w.is Plain [] refl).inside
 
-      group-order : s ≤ e
-      group-order = omega (arith, after)
+      in-order : s ≤ e
+      in-order = omega (arith, after)
 
       module _ (p : Phase) (other : List ℕ) (k : spoiled_phase p ≡ false) where
         masks-seen : slice s e (map mask_of (infos (glyphs run'))) ≡ map mask_of (slice s e (infos (seen_run p n run' other)))
@@ -112,7 +116,7 @@ module _ {wants n : ℕ} {run : List ℕ} where
         same-run = lr ∙ v.same-run;
         fits = rw (glyphs-same run'' run' lr) v.fits;
         high = inside;
-        behind = (ap (drop n) eg ∙ edit-drop-behind (with_mask (settled_mask wants (joined_low (slice s e (map mask_of (infos (glyphs run'))))))) s e n (glyphs run') group-order inside) ∙ v.behind;
+        behind = (ap (drop n) eg ∙ edit-drop-behind (with_mask (settled_mask wants (joined_low (slice s e (map mask_of (infos (glyphs run'))))))) s e n (glyphs run') in-order inside) ∙ v.behind;
         is = λ p other k.
             let L : List (Glyph ℕ) = seen_run p n run' other in
             let L' : List (Glyph ℕ) = seen_run p n run'' other in
@@ -121,13 +125,21 @@ module _ {wants n : ℕ} {run : List ℕ} where
             let on : s + (e - s) ≡ e = omega arith in
             let edited : glyphs run'' ≡ edit s e (with_mask m) (glyphs run') = eg ∙ ap (λ (x : ℕ). edit s e (with_mask x) (glyphs run')) (group-mask p other k) in
             let seen : L' ≡ edit s e (with_mask m) L =
-            ap (take n) (shown-edit (with_mask m) (mask-apart m) s e p run' run'' other group-order k edited) ∙ edit-take (with_mask m) s e n (shown p run' other) group-order inside in
+            ap (take n) (shown-edit (with_mask m) (mask-apart m) s e p run' run'' other in-order k edited) ∙ edit-take (with_mask m) s e n (shown p run' other) in-order inside in
             let later : group_sizes same_cluster (drop e (infos L')) ≡ group_sizes same_cluster (drop e (infos L)) =
-            clusters-same e (infos L') (infos L) (ap (λ (l : List (Glyph ℕ)). map (λ i. i.cluster) (infos l)) seen ∙ words-edit (λ i. i.cluster) (with_mask m) (mask-cluster m) s e L group-order) in
+            clusters-same e (infos L') (infos L) (ap (λ (l : List (Glyph ℕ)). map (λ i. i.cluster) (infos l)) seen ∙ words-edit (λ i. i.cluster) (with_mask m) (mask-cluster m) s e L in-order) in
             ap₂ (λ (ns : List ℕ) (l : List (Glyph ℕ)). propagated wants ns e l) later seen
             ∙ (ap (λ (x : ℕ). propagated wants (group_sizes same_cluster (drop e (infos L))) x (edit s x (with_mask (settled_mask wants (joined (slice s x (infos L))))) L)) (sym on)
             ∙ (sym (ap (λ (ns : List ℕ). propagated wants ns s L) (w.is p other k).is ∙ one-more wants (e - s) (group_sizes same_cluster (drop e (infos L))) s L) ∙ v.is p other k));
       }
+
+    -- where the code says that the group at s ends
+    module _ {e : ℕ} (o : s < n) (ee : e ≡ s + 1 + heads (is (get_or (clusters (glyphs run')) s 4294967295)) (slice (s + 1) n (clusters (glyphs run')))) where
+      pub group-order : s ≤ e
+      group-order = in-order (ends-cluster (o, v.fits) ee)
+
+      pub group-fits : e ≤ length (glyphs run')
+      group-fits = act-fits run' run' v.fits refl (inside (ends-cluster (o, v.fits) ee))
 
     spread-done : n ≤ s → Propagates wants n run run'
     spread-done o =
@@ -139,10 +151,6 @@ module _ {wants n : ℕ} {run : List ℕ} where
               let none : group_sizes same_cluster (drop s (infos (seen_run p n run' other))) ≡ [] = rw end (no-group p run' other k v.fits same_cluster) in
               sym (ap (λ (ns : List ℕ). propagated wants ns s (seen_run p n run' other)) none ∙ no_more wants s (seen_run p n run' other)) ∙ v.is p other k;
         }
-
--- what the act on each group asks for
-pub group-fits : (run p : List ℕ) {n e : ℕ} → n ≤ length (glyphs run) → length p ≡ length run → e ≤ n → e ≤ length (glyphs p)
-group-fits run p {n} h lr i = let k : n ≤ length (glyphs p) = rw (glyphs-same p run lr) h in omega (arith, i, k)
 
 -- where the act gives a group its masks
 pub propagates_each : {F : Type 0} {g : Shared F Taken (Unit {0} × Pair)} {act : F} {wants n : ℕ} {run₀ other₀ run other : List ℕ} → n ≤ length (glyphs run₀) → ActedOnEach g act same_cluster n run₀ other₀ run other

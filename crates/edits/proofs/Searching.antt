@@ -1,11 +1,11 @@
 -- By which level clusters are sought and marked: bit 2 of wants switches level 3 to level 2's way (document 02, N11).
-use mathlib.Core.{Path.◌≡◌, Path.refl, Path.ap, Path.ap₂, Path.◌∙◌, Bool.Bool, Bool.true, Bool.false, Bool.cond, Bool.◌&&◌, List.List}
-use Rattle.std.proofs.Common.{ℕ, ◌-◌, ◌/◌, ◌%◌, min, le-ltb, eq-eqb, eqb-true}
-use lib.{Dec.eqb, Dec.ltb, ListN.take, ListN.drop, Seq.slice}
+use mathlib.Core.{Path.◌≡◌, Path.refl, Path.ap, Path.ap₂, Path.sym, Path.◌∙◌, Bool.Bool, Bool.true, Bool.false, Bool.cond, Bool.◌&&◌, List.List}
+use Rattle.std.proofs.Common.{ℕ, ◌-◌, ◌/◌, ◌%◌, min, arith, le-ltb, eq-eqb, eqb-true, leb-false, leb-true}
+use lib.{Dec.eqb, Dec.leb, Dec.ltb, ListN.take, ListN.drop, Seq.slice}
 use Rattle.records.specs.{Glyphs.Glyph, Ranges.clusters}
 use Rattle.lists.specs.declared.Buffer.{Buffer}
 use Rattle.lists.specs.{Account.Account, Account.State, Account.read_level, Account.input, Account.out_length, Account.with_input, Account.with_done, Contract.state_of}
-use Rattle.lists.proofs.{Changed.state-level, Changed.state-wants}
+use Rattle.lists.proofs.{Changed.state-level, Changed.state-wants, Simple.low-level, Simple.high-level}
 use Rattle.edits.specs.Flags.{search_level, sought, interior, flag_interior, flag_out_interior, SearchesWhole, SearchesAsBefore, Searches}
 use Rattle.edits.specs.inner.Holding.{holds}
 
@@ -34,6 +34,21 @@ module _ (level wants : ℕ) where
       by true true h k = absurd (n (eqb-true level 3 h) (eqb-true (wants / 4 % 2) 1 k))
       by true false h k = refl
       by false y h k = refl
+
+-- what the code's tests say of them
+module _ (level wants : ℕ) where
+  pub search-switched : level ≡ 3 → wants / 4 % 2 ≡ 1 → read_level 2 ≡ search_level (read_level level) wants
+  search-switched e w = sym (low-level 2 (omega arith)) ∙ sym (switched (read_level level) wants (sym (low-level level (omega (arith, e))) ∙ e) w)
+
+  pub search-clear : (wants / 4 % 2 ≡ 1 → ⊥) → read_level level ≡ search_level (read_level level) wants
+  search-clear w = sym (not-switched (read_level level) wants (λ e. w))
+
+  pub search-other : (level ≡ 3 → ⊥) → read_level level ≡ search_level (read_level level) wants
+  search-other n = sym (not-switched (read_level level) wants (λ e w. n (by (leb level 3) refl e)))
+    where
+      by : (x : Bool) → leb level 3 ≡ x → read_level level ≡ 3 → level ≡ 3
+      by true h e = low-level level (leb-true level 3 h) ∙ e
+      by false h e = omega (arith, high-level level (leb-false level 3 h), e)
 
 -- ---- the theorem: with the bit at level 3, the whole range; else as it was
 module _ {G : Type 0} (a : Account G) where
