@@ -57,7 +57,7 @@ fn replace_glyphs(
 }
 
 // Strings are mostly made of 01 and 07: each has a function of its own, and the others stand in groups. None is kept out of line: the state
-// then goes in and out through memory, and a command costs twice as much. One match of all 39 costs twice as much where LLVM keeps it in memory.
+// then goes in and out through memory, and a command costs 1.6 to 1.8 times as much. One match of all 39 costs up to twice as much.
 #[tactic(auto, using(crate::proofs::CallLaws::operand_laws), unfolding(crate::specs::Calls::perform))]
 fn push(b: Buffer, first: &mut [u32], second: &mut [u32], number: u32, cluster: u32) -> Reply
     ensures { Meets (λ capacity a. perform 0 capacity (c01-push cluster) (number ∷ []) a) b first.old second.old result first.new second.new }
