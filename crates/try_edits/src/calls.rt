@@ -9,7 +9,8 @@ use lists::{Buffer, Reply, cursor, state};
 use records::operands::bound;
 use records::{DonePlace, GlyphInfo, InputPlace, Refusal};
 
-// The operands of 0C: a glyph, with an origin, which the call leaves out. Not one function shared with commands: it would take five bare words; here each stands beside its name.
+// The operands of 0C: a glyph, with an origin, which the call leaves out. Not one function shared with commands: it would take five bare
+// words; here each stands beside its name.
 fn glyph(c: Call) -> GlyphInfo {
     GlyphInfo {
         glyph: c.v,
